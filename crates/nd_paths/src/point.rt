@@ -1,7 +1,7 @@
 //! Pointstamps: a location of the graph and a timestamp at it.
 ghost use Rattle.std.specs.Prelude.{◌≡◌, ◌↔◌, IsTrue, IsSome, IfSome};
 ghost use Rattle.nd_paths.specs.Order.{Fits};
-ghost use Rattle.nd_paths.specs.Point.{point_cmp};
+ghost use Rattle.nd_paths.specs.Point.{point_cmp, point_exact};
 ghost use Rattle.nd_paths.specs.declared.point.Pointstamp.{Pointstamp};
 
 use nd_graph::Graph;
@@ -60,6 +60,8 @@ impl Key for Pointstamp {
     fn duplicate(&self) -> Pointstamp {
         self.copy()
     }
+
+    ghost exact = { point_exact };
 }
 
 /// States that pointstamps compare as they are listed: by location, then by epoch, and then by counters

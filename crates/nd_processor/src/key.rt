@@ -1,5 +1,6 @@
 //! The keys of a processor's maps.
 ghost use Rattle.std.specs.Prelude.{◌≡◌};
+ghost use Rattle.nd_processor.specs.Keys.{sink_exact, value_at_exact};
 
 use nd_map::Key;
 use nd_paths::Pointstamp;
@@ -38,10 +39,14 @@ impl Key for ValueAt {
     fn duplicate(&self) -> ValueAt {
         self.copy()
     }
+
+    ghost exact = { value_at_exact };
 }
 
 impl Key for SinkKey {
     fn duplicate(&self) -> SinkKey {
         *self
     }
+
+    ghost exact = { sink_exact };
 }

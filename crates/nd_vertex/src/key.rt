@@ -1,5 +1,6 @@
 //! The keys of the numbers that a vertex stores.
 ghost use Rattle.std.specs.Prelude.{◌≡◌};
+ghost use Rattle.nd_vertex.specs.Items.{item_exact};
 
 use nd_map::Key;
 use nd_time::Timestamp;
@@ -29,4 +30,6 @@ impl Key for ItemKey {
     fn duplicate(&self) -> ItemKey {
         self.copy()
     }
+
+    ghost exact = { item_exact };
 }
