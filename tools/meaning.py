@@ -2,8 +2,8 @@
 
 An edit counts if a clause is left open: what the function ensures, an invariant of its loop or of its type,
 or what a function that it calls requires by a named clause. An index out of range or a sum that may not fit
-shows nothing of the contract. Nor does an answer that does not fit the edited body, or a tactic that stopped
-at a limit of its own: both might refuse a right body that is written otherwise."""
+shows nothing of the contract. An answer that names what the edit took away, or a tactic that stopped at a
+limit of its own, might refuse a right body that is written otherwise, too."""
 import enum
 import re
 
@@ -12,9 +12,10 @@ class Kind(enum.IntEnum):
     """What a line shows, the strongest first."""
 
     CLAUSE = 0
-    ANSWER = 1
-    LIMIT = 2
-    OTHER = 3
+    NAMES = 1
+    MISFIT = 2
+    LIMIT = 3
+    OTHER = 4
 
 
 # a goal without an answer, by the prover's words for it
@@ -23,7 +24,9 @@ OPEN_CLAUSE = re.compile(
     r" (what the function ensures|the invariant |the `invariant` |the struct's ghost fields|what \S+ requires)"
 )
 # an answer that does not fit, with its goal's name where the prover gives it
-WRONG_ANSWER = re.compile(r"(?:\./)?proofs/\S+?:\d+:\d+: error: (?:`([^`]+)`)?")
+WRONG_ANSWER = re.compile(r"(?:\./)?proofs/\S+?:\d+:\d+: error: (?:`([^`]+)`: )?")
+OF_CLAUSE = re.compile(r"returns|invariant_of|.*-(preserved|init)\b|(?!.*\bindex).*-requires")
+OF_NAMES = re.compile(r"has no field|is not in scope|has no `|that can be named from here")
 # what cites a proof that was refused for another line
 FOLLOWS = re.compile(r"(?:\./)?proofs/.*(was not admitted|was not checked)")
 AT_LIMIT = re.compile(r"gave up at one of its limits|stopped at (its own|the step) limit|ran out of|outgrew")
@@ -31,14 +34,16 @@ AT_LIMIT = re.compile(r"gave up at one of its limits|stopped at (its own|the ste
 
 def kind_of(line):
     """What the line shows against its function, or None if it only follows from another."""
+    answer = WRONG_ANSWER.match(line)
     if FOLLOWS.match(line):
         return None
-    if WRONG_ANSWER.match(line):
-        return Kind.ANSWER
-    if not OPEN_CLAUSE.match(line):
+    if answer and OF_NAMES.search(line):
+        return Kind.NAMES
+    if not OPEN_CLAUSE.match(line) and not (answer and OF_CLAUSE.match(answer[1] or "")):
         return Kind.OTHER
-    is_false = "allow values at which this goal is false" in line
-    return Kind.LIMIT if AT_LIMIT.search(line) and not is_false else Kind.CLAUSE
+    if AT_LIMIT.search(line):
+        return Kind.LIMIT
+    return Kind.MISFIT if answer else Kind.CLAUSE
 
 
 def wrong_answers(lines):
@@ -53,9 +58,11 @@ def strongest(lines):
 
 
 # what is said of an edit that does not count, by the strongest line
+ADVICE = "turn something else, or add a line '-- right: TEXT'"
 WHY_NOT = {
-    Kind.ANSWER: "an answer does not fit it, and nothing shows that a right body would be proved (keep what the"
-    " answers name, or add a line '-- right: TEXT')",
-    Kind.LIMIT: "a tactic stopped at a limit of its own (turn something else, or add a line '-- right: TEXT')",
-    Kind.OTHER: "no clause, invariant or named precondition is left open",
+    Kind.CLAUSE: "the right body that it names is not proved",
+    Kind.NAMES: f"answers name what it took away, and a right body might be refused so, too ({ADVICE})",
+    Kind.MISFIT: "an answer does not fit, but without that answer the function is proved",
+    Kind.LIMIT: f"a tactic stopped at a limit of its own ({ADVICE})",
+    Kind.OTHER: "no clause, invariant or named condition is left open",
 }

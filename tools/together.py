@@ -13,12 +13,12 @@ where another changes what a function takes, are tried together again, as long a
 not refused so is tried again with the rest, and at last alone, over what the earlier checks of this run
 proved and then from nothing.
 
-If an answer of the function does not fit the edited body, or a tactic stopped at a limit of its own, a body
-that is right might be refused in the same way. So there is a second trial. An edit may have lines
-`-- right: TEXT`, one for each pair: a right body in the form of the wrong one. If the function is proved with
-it, the refusal counts. Without such a line the answers that do not fit are left out, so that the prover
-searches, with the edit and for the function as it was: the refusal counts if a clause stays open in the
-former, and the latter is proved."""
+Where a body that is right might be refused in the same way, there is a second trial, again of all in one
+copy. An edit may have lines `-- right: TEXT`, one for each pair: a right body in the form of the wrong one.
+The refusal counts if the function is proved with it. Without such a line the answers that do not fit are left
+out, so that the prover searches for them. If the function is proved so, the edit is no wrong body. If answers
+named what the edit took away, the refusal counts only if a clause is open even so, and the function as it was
+is proved without these answers. A tactic that stopped at its own limit alone needs the right body."""
 import collections
 import copy
 import functools
@@ -273,6 +273,12 @@ def path_of(verdicts, function):
     return paths[0] if len(paths) == 1 else None
 
 
+def is_proved(verdicts, function):
+    """Whether nothing is said against this function itself: in the copy what it calls may have no proof."""
+    said = verdicts.get(path_of(verdicts, function), "")
+    return said == "proved" or re.match(r"no proof: it calls `[^`]+`, which is not proved", said) is not None
+
+
 def lines_against(verdicts, told, function):
     """The prover's lines that name a place in this function or in its folder of answers, if it is not
     proved."""
@@ -451,57 +457,72 @@ def are_proved(verdicts, functions):
     return all(verdicts.get(path_of(verdicts, it)) == "proved" for it in functions)
 
 
-def turns(folder, edits):
-    """The edits by turns of those that one check can try, as `chosen` has them."""
-    left = edits
-    while left:
-        together, texts = chosen(folder, left)
-        if not together:
-            return
-        yield together, texts
-        left = [it for it in left if it not in together]
-
-
-def proved_with(rt, crate, bodies, flags, kept, wrong):
-    """Those edits that leave their functions proved with these texts in place of their new ones, if the
-    prover searches for the answers that are `wrong` for the edit."""
-    proved = set()
-    with tempfile.TemporaryDirectory(prefix="rt-right-") as room:
-        paths = {f"{room}/{number}-{os.path.basename(it)}": it for number, it in enumerate(bodies)}
-        for path, it in paths.items():
-            write_edit(it, bodies[it], path)
-        for together, texts in turns(crate.folder, list(paths)):
-            goals = {at: wrong.get((paths[it], own_name(at)), ()) for it, at in each_function(together)}
-            verdicts, _, _ = asked(rt, crate, together, texts, flags, kept, goals)
-            proved |= {paths[it] for it, functions in together.items() if are_proved(verdicts, functions)}
-    return proved
-
-
-def each_function(edits):
-    return [(it, at) for it, functions in edits.items() for at in functions]
-
-
 def own_name(function):
     """The function's name without what is added to it where it stands once more."""
     return re.fullmatch(rf"(.*?)(?:{AGAIN})*", function.names)[1]
 
 
+# A second trial: a file with the edit to be tried, and the answers to be left out, goals by function.
+Again = collections.namedtuple("Again", "path wrong")
+
+
+def outcomes(rt, crate, trials, flags, kept):
+    """For the file of each second trial whether its functions are proved, and the strongest line against
+    them; nothing for one that cannot be read."""
+    wrong, found = {it.path: it.wrong for it in trials}, {}
+
+    def judge(left):
+        together, texts = chosen(crate.folder, left)
+        edited = [(it, at) for it, functions in together.items() for at in functions]
+        goals = {at: wrong[it].get(own_name(at), ()) for it, at in edited}
+        verdicts, told, barred = asked(rt, crate, together, texts, flags, kept, goals) if together else ({}, [], left)
+        for it, functions in together.items() if not barred else ():
+            lines = {at: lines_against(verdicts, told, at) for at in functions}
+            found[it] = all(is_proved(verdicts, at) for at in functions), shown(lines)
+        rest = [it for it in left if it not in (barred or together)]
+        if rest:
+            judge(rest)
+            judge(barred)
+
+    judge(list(wrong))
+    return found
+
+
 def second_trial(rt, crate, doubtful, flags, kept):
-    """The clause for which those of the doubtful edits count that do, which are given with the lines against
-    their functions: a right body in the place of the wrong one is proved, or a clause is left open where the
-    prover searches for the answers that do not fit, and the function as it was is proved so."""
-    rights = {it: bodies for it in doubtful if (bodies := right_bodies(it))}
-    counted = {it: shown(doubtful[it])[1] for it in proved_with(rt, crate, rights, flags, kept, {})}
-    left = [it for it in doubtful if it not in rights and shown(doubtful[it])[0] is Kind.ANSWER]
-    wrong = {(it, own_name(at)): wrong_answers(doubtful[it][at]) for it in left for at in doubtful[it]}
-    as_it_was = {it: [old for _, old, _ in pairs(it)] for it in left}
-    left = [it for it in proved_with(rt, crate, as_it_was, flags, kept, wrong)]
-    for together, texts in turns(crate.folder, left):
-        goals = {at: wrong.get((it, own_name(at)), ()) for it, at in each_function(together)}
-        said, _ = said_together(rt, crate, together, texts, flags, kept, goals)
-        found = {it: shown(lines) for it, lines in said.items()}
-        counted |= {it: line for it, (kind, line) in found.items() if kind is Kind.CLAUSE}
-    return counted
+    """The line for which those of the doubtful edits count that do, which are given with the lines against
+    their functions."""
+    with tempfile.TemporaryDirectory(prefix="rt-again-") as room:
+
+        def trial(edit, texts, wrong):
+            path = tempfile.mkstemp(dir=room)[1]
+            write_edit(edit, texts, path)
+            return Again(path, wrong)
+
+        rights, searches, controls = {}, {}, {}
+        for edit, found in doubtful.items():
+            kind, _ = shown(found)
+            wrong = {own_name(at): wrong_answers(lines) for at, lines in found.items()}
+            if right_bodies(edit):
+                rights[edit] = trial(edit, right_bodies(edit), {})
+            elif kind in (Kind.NAMES, Kind.MISFIT):
+                searches[edit] = trial(edit, [new for _, _, new in pairs(edit)], wrong)
+                if kind is Kind.NAMES:
+                    controls[edit] = trial(edit, [old for _, old, _ in pairs(edit)], wrong)
+        trials = [*rights.values(), *searches.values(), *controls.values()]
+        came_to = outcomes(rt, crate, trials, flags, kept)
+
+    def outcome(trial):
+        return came_to.get(trial.path, (False, None))
+
+    def counts(edit):
+        if edit in rights:
+            return outcome(rights[edit])[0]
+        proved, line = outcome(searches[edit])
+        if edit not in controls:
+            return not proved
+        return line is not None and line[0] is Kind.CLAUSE and outcome(controls[edit])[0]
+
+    return {it: shown(doubtful[it])[1] for it in [*rights, *searches] if counts(it)}
 
 
 def tried_alone(rt, crate, edit, flags, kept):
