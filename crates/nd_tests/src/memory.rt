@@ -1,9 +1,8 @@
 //! Each request for memory of a session's calls refused in turn.
 
-use crate::graphs::{LINE, graph_of};
 use crate::opened::{Asked, NOTHING, command_of, opened, session_of};
-use crate::scripts::{Told, is_state, state_text};
 use nd_cluster::Next;
+use nd_examples::{LINE, Told, graph_of, is_state, state_text};
 use nd_history::Snapshot;
 use nd_session::{Client, Receipt, Session, SessionFault, State};
 use nd_testing::{Refusing, in_turn, met};

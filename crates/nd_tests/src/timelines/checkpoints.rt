@@ -1,11 +1,10 @@
-//! Far jumps over long runs: where they land, after a cut too, while memory is refused, and how many checkpoints there are.
+//! Checkpoints of long runs: far jumps while memory is refused, and how many checkpoints there are.
 
-use crate::graphs::ENDLESS;
-use crate::scripts::{Told, is_state, start, state_text, step_of};
 use crate::timelines::memory::Heap;
 use crate::timelines::run_all;
 use nd_breaks::Breaks;
 use nd_cluster::{Next, Step, Values};
+use nd_examples::{ENDLESS, Told, is_state, start, state_text, step_of};
 use nd_testing::{MANY, Refusing};
 use nd_timeline::{Fault, Timeline};
 use std::alloc::{Allocator, Global};
@@ -29,47 +28,6 @@ fn is_led_to<A: Allocator + Copy>(json: Global, alloc: A, timeline: &Timeline<A>
     }
     let wanted = state_text(json, other.cluster())?;
     Some(is_state(json, timeline.cluster(), wanted.as_str()))
-}
-
-/// Returns whether jumps to all of these positions arrive there.
-fn lands<A: Allocator + Copy>(
-    json: Global,
-    alloc: A,
-    timeline: &mut Timeline<A>,
-    positions: &[u64],
-) -> Option<bool> {
-    for n in positions {
-        timeline.jump(*n).ok()?;
-        if timeline.at() != *n || !is_led_to(json, alloc, timeline)? {
-            return Some(false);
-        }
-    }
-    Some(true)
-}
-
-/// Positions around those of checkpoints, far apart from one another.
-static AROUND: [u64; 12] = [
-    5000, 0, 4999, 1024, 4096, 1, 1023, 3072, 1025, 4998, 2049, 2047,
-];
-
-/// Returns whether far jumps over a run of 5,000 steps arrive, and still do after other steps have replaced most of them.
-fn jumps<A: Allocator + Copy>(json: Global, alloc: A) -> Option<bool> {
-    let mut timeline = looped(json, alloc)?;
-    run_all(&mut timeline, 4998, &Breaks::new(alloc).ok()?).ok()?;
-    let first = lands(json, alloc, &mut timeline, &AROUND)?;
-    timeline.jump(1500).ok()?;
-    let told = Told::Feed(0, "a", &[7, 8, 9], Next::Next);
-    let step = step_of(alloc, timeline.cluster().graph(), &told)?;
-    timeline.forward(&step).ok()?;
-    run_all(&mut timeline, 3499, &Breaks::new(alloc).ok()?).ok()?;
-    Some(first && lands(json, alloc, &mut timeline, &AROUND)?)
-}
-
-#[test]
-fn far_jumps_land(rt: HostRuntime) {
-    let heap = Refusing::new(rt.alloc());
-    assert!(rt; jumps(rt.alloc(), &heap) == Some(true));
-    assert!(rt; heap.live() == 0);
 }
 
 /// Returns whether a run over a position where a checkpoint is due met the refused request, and whether the run continued.

@@ -1,13 +1,12 @@
 //! Each request for memory of a move refused in turn.
 
-use crate::graphs::{EXCHANGE, LINE};
 use crate::opened::{Asked, command_of};
-use crate::scripts::{
-    HELD_MOVED, SUM_NOTIFIED, Script, Told, is_state, processors_of, reach, start, state_text,
-    step_of,
-};
 use nd_breaks::Breaks;
 use nd_cluster::{Cluster, Next};
+use nd_examples::{
+    EXCHANGE, HELD_MOVED, LINE, SUM_NOTIFIED, Script, Told, is_state, processors_of, reach, start,
+    state_text, step_of,
+};
 use nd_protocol::Processors;
 use nd_testing::{Refusing, in_turn, met};
 use nd_timeline::{Fault, Timeline};

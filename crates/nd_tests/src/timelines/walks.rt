@@ -1,10 +1,9 @@
 //! Walks over a timeline's kept steps, and what is listed of them, each request for memory refused in turn.
 
-use crate::graphs::point;
 use crate::opened::only;
-use crate::scripts::{SUM_NOTIFIED, Script};
 use crate::timelines::memory::{ALL, Heap, TEN, is_after, kept};
 use nd_breaks::Atom;
+use nd_examples::{SUM_NOTIFIED, Script, point};
 use nd_history::{ChangesFault, EffectFault, TurnsFault, changes, effect, turns};
 use nd_testing::{Refusing, in_turn, met};
 use nd_timeline::{Fault, Timeline};
