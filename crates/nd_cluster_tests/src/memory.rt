@@ -25,64 +25,52 @@ enum Call {
 }
 
 /// Returns whether a call met the refused request. Returns `None` if its answer, or what it left, is wrong.
-fn meets<A: Allocator + Copy>(
-    heap: &Heap,
-    alloc: A,
-    json: Global,
-    call: &Call,
-    n: u64,
-) -> Option<bool> {
-    let cluster = reach(json, alloc, LINE, 2, &[])?;
+fn meets(heap: &Heap, json: Global, call: &Call, n: u64) -> Option<bool> {
+    let cluster = reach(json, heap, LINE, 2, &[])?;
     let told = Told::Feed(0, "a", &[5, 6, 7, 8], Next::Close);
-    let step = step_of(alloc, cluster.graph(), &told)?;
+    let step = step_of(heap, cluster.graph(), &told)?;
     match call {
         Call::Start => {
-            let graph = cluster.graph().copy(alloc).ok()?;
-            met!(heap, n: Cluster::start(alloc, graph, 2); StartFault::Memory, true)
+            let graph = cluster.graph().copy(heap).ok()?;
+            met!(heap, n: Cluster::start(heap, graph, 2); StartFault::Memory, true)
         }
-        Call::CopyCluster => met!(heap, n: cluster.copy(alloc); AllocError, true),
-        Call::CopyStep => met!(heap, n: step.copy(alloc); AllocError, true),
+        Call::CopyCluster => met!(heap, n: cluster.copy(heap); AllocError, true),
+        Call::CopyStep => met!(heap, n: step.copy(heap); AllocError, true),
         Call::CopyRecord => {
             let record = cluster.plan(&step).ok()?;
-            met!(heap, n: record.copy(alloc); AllocError, true)
+            met!(heap, n: record.copy(heap); AllocError, true)
         }
         Call::PushValue => {
-            let mut values = values_of(alloc, &[1, 2, 3])?.copy(alloc).ok()?;
+            let mut values = values_of(heap, &[1, 2, 3])?.copy(heap).ok()?;
             met!(heap, n: values.push(4); AllocError, values.as_slice() == [1, 2, 3].as_slice())
         }
-        _ => small_parts(heap, alloc, json, call, n),
+        _ => small_parts(heap, json, call, n),
     }
 }
 
 /// Does the same for a release, its times, and a list of processors.
-fn small_parts<A: Allocator + Copy>(
-    heap: &Heap,
-    alloc: A,
-    json: Global,
-    call: &Call,
-    n: u64,
-) -> Option<bool> {
-    let mut only = processors_of(alloc, &[0, 1])?.copy(alloc).ok()?;
+fn small_parts(heap: &Heap, json: Global, call: &Call, n: u64) -> Option<bool> {
+    let mut only = processors_of(heap, &[0, 1])?.copy(heap).ok()?;
     match call {
         Call::CopyRelease => {
             let told = Told::Release(0, "h", &[0], Some(&[3]));
-            let step = step_of(alloc, &graph_of(json, alloc, HELD)?, &told)?;
-            met!(heap, n: step.copy(alloc); AllocError, true)
+            let step = step_of(heap, &graph_of(json, heap, HELD)?, &told)?;
+            met!(heap, n: step.copy(heap); AllocError, true)
         }
         Call::BoxTimes => {
             let times = times_of(&[0], &Some(&[3]))?;
-            met!(heap, n: BoxedTimes::new(alloc, times); AllocError, true)
+            met!(heap, n: BoxedTimes::new(heap, times); AllocError, true)
         }
         Call::PushProcessor => {
             met!(heap, n: only.push(1); AllocError, only.as_slice() == [0, 1].as_slice())
         }
-        _ => met!(heap, n: only.copy(alloc); AllocError, true),
+        _ => met!(heap, n: only.copy(heap); AllocError, true),
     }
 }
 
 /// Returns how many requests of a call were refused before it met none.
-fn refused<A: Allocator + Copy>(heap: &Heap, alloc: A, json: Global, call: &Call) -> Option<u64> {
-    in_turn!(n: meets(heap, alloc, json, call, n))
+fn refused(heap: &Heap, json: Global, call: &Call) -> Option<u64> {
+    in_turn!(n: meets(heap, json, call, n))
 }
 
 static CALLS: [Call; 9] = [
@@ -101,7 +89,7 @@ static CALLS: [Call; 9] = [
 fn starts_and_copies(rt: HostRuntime) {
     let heap = Refusing::new(rt.alloc());
     for (i, call) in CALLS.iter().enumerate() {
-        let count = refused(&heap, &heap, rt.alloc(), call);
+        let count = refused(&heap, rt.alloc(), call);
         assert!(rt; matches!(count, Some(n) if n > 0), "in row {i}");
         assert!(rt; heap.live() == 0, "in row {i}");
     }
@@ -160,15 +148,9 @@ static QUERIES: [(Query, Script); 6] = [
 ];
 
 /// Returns whether a question met the refused request, and left the cluster unchanged.
-fn meets_query<A: Allocator + Copy>(
-    heap: &Heap,
-    alloc: A,
-    json: Global,
-    row: &(Query, Script),
-    n: u64,
-) -> Option<bool> {
+fn meets_query(heap: &Heap, json: Global, row: &(Query, Script), n: u64) -> Option<bool> {
     let (query, (text, count, steps)) = row;
-    let cluster = reach(json, alloc, text, *count, steps)?;
+    let cluster = reach(json, heap, text, *count, steps)?;
     let z = point(cluster.graph(), "z", &[1])?;
     if cluster.n() == 0 {
         return None;
@@ -179,35 +161,30 @@ fn meets_query<A: Allocator + Copy>(
             met!(heap, n: cluster.candidates(); NoMemory, is_state(json, &cluster, before.as_str()))
         }
         Query::FrontierAt => {
-            met!(heap, n: cluster.frontier_at(alloc, 0, z.location); NoMemory,
+            met!(heap, n: cluster.frontier_at(heap, 0, z.location); NoMemory,
                 is_state(json, &cluster, before.as_str()))
         }
         Query::Why => {
-            met!(heap, n: cluster.why(alloc, 0, &z); NoMemory,
+            met!(heap, n: cluster.why(heap, 0, &z); NoMemory,
                 is_state(json, &cluster, before.as_str()))
         }
         Query::WhyBefore => {
-            met!(heap, n: cluster.why_before(alloc, 0, &z); NoMemory,
+            met!(heap, n: cluster.why_before(heap, 0, &z); NoMemory,
                 is_state(json, &cluster, before.as_str()))
         }
     }
 }
 
 /// Returns how many requests of a question were refused before it met none.
-fn refused_queries<A: Allocator + Copy>(
-    heap: &Heap,
-    alloc: A,
-    json: Global,
-    row: &(Query, Script),
-) -> Option<u64> {
-    in_turn!(n: meets_query(heap, alloc, json, row, n))
+fn refused_queries(heap: &Heap, json: Global, row: &(Query, Script)) -> Option<u64> {
+    in_turn!(n: meets_query(heap, json, row, n))
 }
 
 #[test]
 fn queries_out_of_memory(rt: HostRuntime) {
     let heap = Refusing::new(rt.alloc());
     for (i, row) in QUERIES.iter().enumerate() {
-        let count = refused_queries(&heap, &heap, rt.alloc(), row);
+        let count = refused_queries(&heap, rt.alloc(), row);
         assert!(rt; matches!(count, Some(n) if n > 0), "in row {i}");
         assert!(rt; heap.live() == 0, "in row {i}");
     }
@@ -328,15 +305,14 @@ enum Stage {
 }
 
 /// Does the same for one of these calls, on a copy of the cluster if it changes that.
-fn meets_stage<A: Allocator + Copy>(
+fn meets_stage(
     heap: &Heap,
-    alloc: A,
     json: Global,
-    case: &Case<A>,
+    case: &Case<&Heap>,
     stage: &Stage,
     n: u64,
 ) -> Option<bool> {
-    let mut cluster = case.base.copy(alloc).ok()?;
+    let mut cluster = case.base.copy(heap).ok()?;
     match stage {
         Stage::Plan => meets_plan(heap, json, case, n),
         Stage::Commit => meets_commit(heap, json, &mut cluster, case, n),
@@ -345,31 +321,24 @@ fn meets_stage<A: Allocator + Copy>(
 }
 
 /// Returns how many requests of such a call were refused before it met none.
-fn stage_in_turn<A: Allocator + Copy>(
-    heap: &Heap,
-    alloc: A,
-    json: Global,
-    case: &Case<A>,
-    stage: &Stage,
-) -> Option<u64> {
-    in_turn!(n: meets_stage(heap, alloc, json, case, stage, n))
+fn stage_in_turn(heap: &Heap, json: Global, case: &Case<&Heap>, stage: &Stage) -> Option<u64> {
+    in_turn!(n: meets_stage(heap, json, case, stage, n))
 }
 
 /// Returns how many requests were refused for the plan, for the commit and for the back-step of a run's last step. Each refusal
 /// left everything unchanged.
-fn last_in_turn<A: Allocator + Copy>(
+fn last_in_turn(
     heap: &Heap,
-    alloc: A,
     json: Global,
     text: &str,
     n: u32,
     steps: &[Told],
 ) -> Option<(u64, u64, u64)> {
     let (last, first) = steps.split_last()?;
-    let base = reach(json, alloc, text, n, first)?;
-    let step = step_of(alloc, base.graph(), last)?;
+    let base = reach(json, heap, text, n, first)?;
+    let step = step_of(heap, base.graph(), last)?;
     let before = state_text(json, &base)?;
-    let after = state_text(json, &reach(json, alloc, text, n, steps)?)?;
+    let after = state_text(json, &reach(json, heap, text, n, steps)?)?;
     let case = Case {
         base: &base,
         step: &step,
@@ -377,9 +346,9 @@ fn last_in_turn<A: Allocator + Copy>(
         after: after.as_str(),
     };
     Some((
-        stage_in_turn(heap, alloc, json, &case, &Stage::Plan)?,
-        stage_in_turn(heap, alloc, json, &case, &Stage::Commit)?,
-        stage_in_turn(heap, alloc, json, &case, &Stage::Back)?,
+        stage_in_turn(heap, json, &case, &Stage::Plan)?,
+        stage_in_turn(heap, json, &case, &Stage::Commit)?,
+        stage_in_turn(heap, json, &case, &Stage::Back)?,
     ))
 }
 
@@ -387,7 +356,7 @@ fn last_in_turn<A: Allocator + Copy>(
 fn last_steps(rt: HostRuntime) {
     let heap = Refusing::new(rt.alloc());
     for (row, (text, n, steps)) in RUNS.iter().enumerate() {
-        let met = last_in_turn(&heap, &heap, rt.alloc(), text, *n, steps);
+        let met = last_in_turn(&heap, rt.alloc(), text, *n, steps);
         assert!(rt;
             matches!(met, Some((plans, commits, _)) if plans > 0 && commits > 0),
             "in row {row}"
@@ -396,7 +365,7 @@ fn last_steps(rt: HostRuntime) {
     let (text, n, steps) = &SUM_NOTIFIED;
     for turn in 0..steps.len() {
         let run = steps.get(..=turn).unwrap_or(&[]);
-        let met = last_in_turn(&heap, &heap, rt.alloc(), text, *n, run);
+        let met = last_in_turn(&heap, rt.alloc(), text, *n, run);
         assert!(rt; met.is_some(), "at step {turn} of a sum");
     }
     assert!(rt; heap.live() == 0);

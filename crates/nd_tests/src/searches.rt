@@ -343,38 +343,27 @@ fn the_gate_is_called_before_the_walk(rt: HostRuntime) {
 }
 
 /// Returns whether making a snapshot, or a copy of one, met the refused request.
-fn meets<A: Allocator + Copy>(
-    heap: &Heap,
-    json: Global,
-    alloc: A,
-    is_copy: bool,
-    n: u64,
-) -> Option<bool> {
-    let mut timeline = Timeline::new(alloc, start(json, alloc, LINE, 1)?).ok()?;
-    forward(alloc, &mut timeline, &NOTHING, 2)?;
+fn meets(heap: &Heap, json: Global, is_copy: bool, n: u64) -> Option<bool> {
+    let mut timeline = Timeline::new(heap, start(json, heap, LINE, 1)?).ok()?;
+    forward(heap, &mut timeline, &NOTHING, 2)?;
     if is_copy {
-        let snapshot = Snapshot::of(alloc, &timeline, 7).ok()?;
-        met!(heap, n: snapshot.copy(alloc); AllocError, true)
+        let snapshot = Snapshot::of(heap, &timeline, 7).ok()?;
+        met!(heap, n: snapshot.copy(heap); AllocError, true)
     } else {
-        met!(heap, n: Snapshot::of(alloc, &timeline, 7); AllocError, true)
+        met!(heap, n: Snapshot::of(heap, &timeline, 7); AllocError, true)
     }
 }
 
 /// Returns how many requests were refused before the call met none.
-fn snapshots<A: Allocator + Copy>(
-    heap: &Heap,
-    json: Global,
-    alloc: A,
-    is_copy: bool,
-) -> Option<u64> {
-    in_turn!(n: meets(heap, json, alloc, is_copy, n))
+fn snapshots(heap: &Heap, json: Global, is_copy: bool) -> Option<u64> {
+    in_turn!(n: meets(heap, json, is_copy, n))
 }
 
 #[test]
 fn snapshots_out_of_memory(rt: HostRuntime) {
     let heap = Refusing::new(rt.alloc());
     for is_copy in [false, true] {
-        let count = snapshots(&heap, rt.alloc(), &heap, is_copy);
+        let count = snapshots(&heap, rt.alloc(), is_copy);
         assert!(rt; matches!(count, Some(n) if n > 0));
     }
     assert!(rt; heap.live() == 0);
