@@ -305,10 +305,10 @@ enum Stage {
 }
 
 /// Does the same for one of these calls, on a copy of the cluster if it changes that.
-fn meets_stage(
-    heap: &Heap,
+fn meets_stage<'a>(
+    heap: &'a Heap,
     json: Global,
-    case: &Case<&Heap>,
+    case: &Case<&'a Heap>,
     stage: &Stage,
     n: u64,
 ) -> Option<bool> {
@@ -321,7 +321,12 @@ fn meets_stage(
 }
 
 /// Returns how many requests of such a call were refused before it met none.
-fn stage_in_turn(heap: &Heap, json: Global, case: &Case<&Heap>, stage: &Stage) -> Option<u64> {
+fn stage_in_turn<'a>(
+    heap: &'a Heap,
+    json: Global,
+    case: &Case<&'a Heap>,
+    stage: &Stage,
+) -> Option<u64> {
     in_turn!(n: meets_stage(heap, json, case, stage, n))
 }
 

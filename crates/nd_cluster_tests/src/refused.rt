@@ -114,7 +114,7 @@ fn paths(heap: &Heap, json: Global, call: &Call, n: u64) -> Option<bool> {
 }
 
 /// Does the same for a call on changes.
-fn changes(heap: &Heap, graph: &Graph<&Heap>, call: &Call, n: u64) -> Option<bool> {
+fn changes<'a>(heap: &'a Heap, graph: &Graph<&'a Heap>, call: &Call, n: u64) -> Option<bool> {
     let (a, az) = (point(graph, "a", &[0])?, point(graph, "az", &[0])?);
     let whole = change(heap, graph, &[("a", 0, 1), ("z", 0, 1)])?;
     // a copy has room for no more entries
@@ -176,7 +176,7 @@ fn views(heap: &Heap, json: Global, call: &Call, n: u64) -> Option<bool> {
 }
 
 /// Does the same for a call on queues.
-fn queues(heap: &Heap, change: Delta<&Heap>, call: &Call, n: u64) -> Option<bool> {
+fn queues<'a>(heap: &'a Heap, change: Delta<&'a Heap>, call: &Call, n: u64) -> Option<bool> {
     let mut mesh = Mesh::new(heap, 2).ok()?;
     match call {
         Call::MakeMesh => met!(heap, n: Mesh::new(heap, 2); AllocError, true),
@@ -204,10 +204,10 @@ pub fn many<A: Allocator + Copy>(alloc: A, count: i64) -> Option<VertexState<A>>
 }
 
 /// Does the same for the edits of an effect, applied or undone. If that takes memory, there is no item before it.
-fn edits(
-    heap: &Heap,
-    state: &mut VertexState<&Heap>,
-    effect: &Effect<&Heap>,
+fn edits<'a>(
+    heap: &'a Heap,
+    state: &mut VertexState<&'a Heap>,
+    effect: &Effect<&'a Heap>,
     call: &Call,
     n: u64,
 ) -> Option<bool>
@@ -257,7 +257,7 @@ fn full_vertices(heap: &Heap, call: &Call, n: u64) -> Option<bool> {
 }
 
 /// Does the same for a call on a complete processor.
-fn processors(heap: &Heap, graph: &Graph<&Heap>, call: &Call, n: u64) -> Option<bool> {
+fn processors<'a>(heap: &'a Heap, graph: &Graph<&'a Heap>, call: &Call, n: u64) -> Option<bool> {
     let mut processor = Processor::start(heap, graph).ok()?;
     match call {
         Call::StartProcessor => met!(heap, n: Processor::start(heap, graph); AllocError, true),
@@ -273,7 +273,7 @@ fn processors(heap: &Heap, graph: &Graph<&Heap>, call: &Call, n: u64) -> Option<
 }
 
 /// Does the same for a call that puts a record, a request, a sink's count or an unsent entry into a processor.
-fn additions(heap: &Heap, graph: &Graph<&Heap>, call: &Call, n: u64) -> Option<bool> {
+fn additions<'a>(heap: &'a Heap, graph: &Graph<&'a Heap>, call: &Call, n: u64) -> Option<bool> {
     let mut processor = Processor::start(heap, graph).ok()?;
     let point = point(graph, "ad", &[0])?;
     match call {
@@ -292,7 +292,7 @@ fn additions(heap: &Heap, graph: &Graph<&Heap>, call: &Call, n: u64) -> Option<b
 }
 
 /// Does the same for all that is unsent, removed and put back.
-fn parts(heap: &Heap, processor: &mut Processor<&Heap>, n: u64) -> Option<bool> {
+fn parts<'a>(heap: &'a Heap, processor: &mut Processor<&'a Heap>, n: u64) -> Option<bool> {
     let part = take_all(processor, heap)?;
     let Ok(mut left) = processor.copy(heap) else {
         return None;

@@ -175,7 +175,12 @@ fn copied<A: Allocator + Copy>(json: Global, alloc: A, script: &Script) -> Optio
 }
 
 /// Returns whether a run met the refused request; if it did, it stays where it stopped.
-fn meets_run(heap: &Heap, json: Global, only: &Option<Processors<&Heap>>, n: u64) -> Option<bool> {
+fn meets_run<'a>(
+    heap: &'a Heap,
+    json: Global,
+    only: &Option<Processors<&'a Heap>>,
+    n: u64,
+) -> Option<bool> {
     let mut timeline = copied(json, heap, &ONE)?;
     let breaks = Breaks::new(heap).ok()?;
     let met = met!(heap, n: timeline.run(10, only.as_ref(), &breaks);
@@ -219,7 +224,7 @@ fn meets_again<A: Allocator + Copy>(
 }
 
 /// Does the same for a new timeline, and for copies of a timeline and of a command.
-fn meets_copy(heap: &Heap, base: &Timeline<&Heap>, call: &Move, n: u64) -> Option<bool> {
+fn meets_copy<'a>(heap: &'a Heap, base: &Timeline<&'a Heap>, call: &Move, n: u64) -> Option<bool> {
     match call {
         Move::New => {
             let cluster = base.cluster().copy(heap).ok()?;

@@ -77,9 +77,9 @@ static QUESTIONS: [Question; 6] = [
 ];
 
 /// Returns whether a question met the request that was refused.
-fn meets_question(
-    heap: &Heap,
-    timeline: &Timeline<&Heap>,
+fn meets_question<'a>(
+    heap: &'a Heap,
+    timeline: &Timeline<&'a Heap>,
     question: &Question,
     n: u64,
 ) -> Option<bool> {
