@@ -1,5 +1,5 @@
 //! Copies of clusters: each of their parts with none, one and hundreds of entries is copied to another heap, and grows
-//! there without the first.
+//! there without the first. Each value is taken twice, and then broadcast.
 
 use crate::refused::Heap;
 use nd_cluster::{Cluster, Next, Step};
@@ -15,8 +15,7 @@ fn go<A: Allocator + Copy>(cluster: &mut Cluster<A>, step: &Step<A>) -> Option<(
     cluster.commit(&record).ok()
 }
 
-/// Feeds a value at each of `count` epochs, and then executes the first enabled step `steps` times. The values and
-/// requests stay at as many times; what is unsent, a queue and the view get as many entries.
+/// Feeds a value at each of `count` epochs, and then executes the first enabled step `steps` times.
 fn grow<A: Allocator + Copy>(
     alloc: A,
     cluster: &mut Cluster<A>,
@@ -57,7 +56,6 @@ fn is_apart<A: Allocator + Copy>(
     count: u32,
 ) -> Option<bool> {
     let mut base = start(json, here, DISTINCT, 1)?;
-    // each value is taken twice; then comes a broadcast
     grow(
         here,
         &mut base,

@@ -3,7 +3,7 @@
 use crate::refused::Heap;
 use nd_cluster::{Cluster, Next, NoMemory, Refusal, StartFault, Step};
 use nd_examples::{
-    HELD, HELD_MOVED, LINE, LOOP, SUM, SUM_NOTIFIED, Script, Told, graph_of, is_state, make, point,
+    HELD, HELD_MOVED, LINE, LOOP, SUM_NOTIFIED, Script, Told, graph_of, is_state, make, point,
     processors_of, reach, state_text, step_of, times_of, values_of,
 };
 use nd_protocol::BoxedTimes;
@@ -104,16 +104,6 @@ enum Query {
     WhyBefore,
 }
 
-/// A sum that took one record of two.
-const SUM_BEGUN: Script = (
-    SUM,
-    1,
-    &[
-        Told::Feed(0, "a", &[2, 3], Next::Close),
-        Told::Take(0, "as", &[0], 2),
-    ],
-);
-
 /// A line with records on both processors, and a change on its way from the second.
 const LINE_BEGUN: Script = (
     LINE,
@@ -125,32 +115,22 @@ const LINE_BEGUN: Script = (
     ],
 );
 
-/// A capability that is left after a run has done everything it can.
-const HELD_IDLE: Script = (
-    HELD,
-    1,
-    &[
-        Told::Feed(0, "a", &[7], Next::Close),
-        Told::Take(0, "ah", &[0], 7),
-        Told::Take(0, "hz", &[0], 7),
-        Told::All(0),
-        Told::Receive(0, 0),
-    ],
-);
+/// A question, a script, and how many of its steps come before the question.
+type Asked = (Query, Script, usize);
 
-static QUERIES: [(Query, Script); 6] = [
-    (Query::Candidates, SUM_BEGUN),
-    (Query::Candidates, LINE_BEGUN),
-    (Query::Candidates, HELD_IDLE),
-    (Query::FrontierAt, LINE_BEGUN),
-    (Query::Why, LINE_BEGUN),
-    (Query::WhyBefore, LINE_BEGUN),
+static QUERIES: [Asked; 6] = [
+    (Query::Candidates, SUM_NOTIFIED, 2),
+    (Query::Candidates, LINE_BEGUN, 3),
+    (Query::Candidates, HELD_MOVED, 3),
+    (Query::FrontierAt, LINE_BEGUN, 3),
+    (Query::Why, LINE_BEGUN, 3),
+    (Query::WhyBefore, LINE_BEGUN, 3),
 ];
 
 /// Returns whether a question met the refused request, and left the cluster unchanged.
-fn meets_query(heap: &Heap, json: Global, row: &(Query, Script), n: u64) -> Option<bool> {
-    let (query, (text, count, steps)) = row;
-    let cluster = reach(json, heap, text, *count, steps)?;
+fn meets_query(heap: &Heap, json: Global, row: &Asked, n: u64) -> Option<bool> {
+    let (query, (text, count, steps), made) = row;
+    let cluster = reach(json, heap, text, *count, steps.get(..*made)?)?;
     let z = point(cluster.graph(), "z", &[1])?;
     if cluster.n() == 0 {
         return None;
@@ -176,7 +156,7 @@ fn meets_query(heap: &Heap, json: Global, row: &(Query, Script), n: u64) -> Opti
 }
 
 /// Returns how many requests of a question were refused before it met none.
-fn refused_queries(heap: &Heap, json: Global, row: &(Query, Script)) -> Option<u64> {
+fn refused_queries(heap: &Heap, json: Global, row: &Asked) -> Option<u64> {
     in_turn!(n: meets_query(heap, json, row, n))
 }
 
@@ -191,17 +171,9 @@ fn queries_out_of_memory(rt: HostRuntime) {
 }
 
 /// Runs for whose last step memory is refused; its plan and its commit each ask for some.
-static RUNS: [Script; 9] = [
+static RUNS: [Script; 8] = [
     (LINE, 2, &[Told::Feed(1, "a", &[5, 7, 5], Next::Next)]),
     (LINE, 1, &[Told::Feed(0, "a", &[5], Next::Stay)]),
-    (
-        SUM,
-        1,
-        &[
-            Told::Feed(0, "a", &[2], Next::Close),
-            Told::Take(0, "as", &[0], 2),
-        ],
-    ),
     (
         LOOP,
         1,

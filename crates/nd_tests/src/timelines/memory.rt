@@ -15,21 +15,14 @@ use std::alloc::{AllocError, Allocator, Global};
 /// The allocator of these tests.
 pub type Heap = Refusing<Global>;
 
+const NOTHING: Told = Told::Feed(0, "a", &[], Next::Next);
+
 /// Ten feeds of nothing.
 pub static TEN: Script = (
     LINE,
     1,
     &[
-        Told::Feed(0, "a", &[], Next::Next),
-        Told::Feed(0, "a", &[], Next::Next),
-        Told::Feed(0, "a", &[], Next::Next),
-        Told::Feed(0, "a", &[], Next::Next),
-        Told::Feed(0, "a", &[], Next::Next),
-        Told::Feed(0, "a", &[], Next::Next),
-        Told::Feed(0, "a", &[], Next::Next),
-        Told::Feed(0, "a", &[], Next::Next),
-        Told::Feed(0, "a", &[], Next::Next),
-        Told::Feed(0, "a", &[], Next::Next),
+        NOTHING, NOTHING, NOTHING, NOTHING, NOTHING, NOTHING, NOTHING, NOTHING, NOTHING, NOTHING,
     ],
 );
 

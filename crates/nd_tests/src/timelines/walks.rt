@@ -4,16 +4,10 @@ use crate::opened::only;
 use crate::timelines::memory::{ALL, Heap, TEN, is_after, kept};
 use nd_breaks::Atom;
 use nd_examples::{SUM_NOTIFIED, Script, point};
-use nd_history::{ChangesFault, EffectFault, TurnsFault, changes, effect, turns};
+use nd_history::{ChangesFault, EffectFault, Snapshot, TurnsFault, changes, effect, turns};
 use nd_testing::{Refusing, in_turn, met};
 use nd_timeline::{Fault, Timeline};
 use std::alloc::{AllocError, Allocator, Global};
-
-/// Returns whether the beginning of a walk met the refused request.
-fn meets_beginning(heap: &Heap, json: Global, n: u64) -> Option<bool> {
-    let timeline = kept(json, heap, &ALL)?;
-    met!(heap, n: timeline.walk_near(heap, 0); AllocError, true)
-}
 
 /// Returns whether a walk from one end of a script to the other met the refused request; if it did, it is at the reported
 /// position.
@@ -37,16 +31,9 @@ fn walks(heap: &Heap, json: Global, script: &Script, is_back: bool) -> Option<u6
     in_turn!(n: meets_walk(heap, json, script, is_back, n))
 }
 
-/// Does the same for its beginning.
-fn beginnings(heap: &Heap, json: Global) -> Option<u64> {
-    in_turn!(n: meets_beginning(heap, json, n))
-}
-
 #[test]
 fn walk_out_of_memory(rt: HostRuntime) {
     let heap = Refusing::new(rt.alloc());
-    let count = beginnings(&heap, rt.alloc());
-    assert!(rt; matches!(count, Some(n) if n > 0));
     for (row, script) in [&TEN, &SUM_NOTIFIED, &ALL].into_iter().enumerate() {
         for is_back in [false, true] {
             let count = walks(&heap, rt.alloc(), script, is_back);
@@ -65,15 +52,21 @@ enum Question {
     Turns,
     /// What the step that leads to a position changed.
     Effect(u64),
+    BeginWalk,
+    Snapshot,
+    CopyOfSnapshot,
 }
 
-static QUESTIONS: [Question; 6] = [
+static QUESTIONS: [Question; 9] = [
     Question::Changes,
     Question::Turns,
     Question::Effect(1),
     Question::Effect(2),
     Question::Effect(3),
     Question::Effect(4),
+    Question::BeginWalk,
+    Question::Snapshot,
+    Question::CopyOfSnapshot,
 ];
 
 /// Returns whether a question met the request that was refused.
@@ -99,6 +92,12 @@ fn meets_question<'a>(
         }
         Question::Effect(to) => {
             met!(heap, n: effect(heap, timeline, *to); EffectFault::Memory, true)
+        }
+        Question::BeginWalk => met!(heap, n: timeline.walk_near(heap, 0); AllocError, true),
+        Question::Snapshot => met!(heap, n: Snapshot::of(heap, timeline, 7); AllocError, true),
+        Question::CopyOfSnapshot => {
+            let snapshot = Snapshot::of(heap, timeline, 7).ok()?;
+            met!(heap, n: snapshot.copy(heap); AllocError, true)
         }
     }
 }
