@@ -1,9 +1,8 @@
 //! Sessions and commands that the tests begin with.
 
-use crate::graphs::graph_of;
-use crate::scripts::{Told, processors_of, step_of};
 use nd_breaks::{Atom, BoxedCondition, Condition, Literal, Quantifier};
 use nd_cluster::{Cluster, Next};
+use nd_examples::{Told, graph_of, processors_of, step_of};
 use nd_graph::Graph;
 use nd_session::{Session, State};
 use nd_timeline::{Command, Timeline};

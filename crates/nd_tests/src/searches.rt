@@ -1,15 +1,13 @@
-//! Searches of timelines and of snapshots: the worked examples, how the pieces are claimed, and each request for memory refused
-//! in turn.
+//! Searches of snapshots by several workers: how the pieces are claimed, and each request for memory refused in turn.
 
-use crate::graphs::{LINE, point};
 use crate::opened::only;
-use crate::scripts::{Told, start, step_of};
 use nd_breaks::{Atom, Condition};
 use nd_cluster::Next;
-use nd_history::{Gate, OpenGate, SearchFault, Snapshot, search, search_in};
-use nd_testing::{MANY, Refusing, Sign, in_turn, met};
+use nd_examples::{LINE, Told, point, start, step_of};
+use nd_history::{Gate, SearchFault, Snapshot, search};
+use nd_testing::{MANY, Refusing, Sign};
 use nd_timeline::Timeline;
-use std::alloc::{AllocError, Allocator, Global};
+use std::alloc::{Allocator, Global};
 use std::rt::Clock;
 use std::sync::atomic::{AtomicBool, AtomicU64, Ordering};
 use std::thread::Threads;
@@ -34,34 +32,10 @@ fn forward<A: Allocator + Copy>(
     Some(())
 }
 
-/// Returns the timeline of a line, with the cursor at the end of the kept steps: a number of feeds of nothing, a feed of the
-/// value, its take, and again a number of feeds of nothing.
-fn kept<A: Allocator + Copy>(
-    json: Global,
-    alloc: A,
-    before: u64,
-    taken: Option<(Told, Told)>,
-    behind: u64,
-) -> Option<Timeline<A>> {
+/// Returns a snapshot of a line that keeps this many feeds of nothing, the cursor at their end.
+fn fed<A: Allocator + Copy>(json: Global, alloc: A, times: u64) -> Option<Snapshot<A>> {
     let mut timeline = Timeline::new(alloc, start(json, alloc, LINE, 1)?).ok()?;
-    forward(alloc, &mut timeline, &NOTHING, before)?;
-    if let Some((feed, take)) = taken {
-        forward(alloc, &mut timeline, &feed, 1)?;
-        forward(alloc, &mut timeline, &take, 1)?;
-    }
-    forward(alloc, &mut timeline, &NOTHING, behind)?;
-    Some(timeline)
-}
-
-/// Returns a snapshot of such a timeline.
-fn fed<A: Allocator + Copy>(
-    json: Global,
-    alloc: A,
-    before: u64,
-    taken: Option<(Told, Told)>,
-    behind: u64,
-) -> Option<Snapshot<A>> {
-    let timeline = kept(json, alloc, before, taken, behind)?;
+    forward(alloc, &mut timeline, &NOTHING, times)?;
     Snapshot::of(alloc, &timeline, 0).ok()
 }
 
@@ -71,75 +45,6 @@ fn count<A: Allocator + Copy>(snapshot: &Snapshot<A>, name: &str, epoch: u32) ->
         point: point(snapshot.cluster().graph(), name, &[epoch])?,
         at_least: 1,
     }))
-}
-
-/// Returns the condition that holds if the sink has counted a value.
-fn sink<A: Allocator + Copy>(snapshot: &Snapshot<A>, value: i64) -> Option<Condition> {
-    Some(only(Atom::Sink {
-        vertex: snapshot.cluster().graph().location_of("z")?,
-        value,
-        at_least: 1,
-    }))
-}
-
-/// Returns whether a search of a snapshot and one of its timeline find a position.
-fn find<R: Threads + Sync>(
-    rt: &R,
-    alloc: Global,
-    timeline: &Timeline,
-    condition: &Condition,
-    wanted: Option<u64>,
-) -> Option<bool> {
-    let snapshot = Snapshot::of(alloc, timeline, 0).ok()?;
-    let copied = search(rt, alloc, &snapshot, condition, 0, 2, 8, &OpenGate).ok()?;
-    let lent = search_in(rt, alloc, timeline, condition, 0, 2, 8, &OpenGate).ok()?;
-    Some(copied == wanted && lent == wanted)
-}
-
-/// Returns whether searches find where a value is counted by the sink, and where a record and a token are.
-fn find_each<R: Threads + Sync>(rt: &R, alloc: Global, timeline: &Timeline) -> Option<bool> {
-    let snapshot = Snapshot::of(alloc, timeline, 0).ok()?;
-    Some(
-        find(rt, alloc, timeline, &sink(&snapshot, 5)?, Some(2))?
-            && find(rt, alloc, timeline, &count(&snapshot, "a", 0)?, Some(0))?
-            && find(rt, alloc, timeline, &count(&snapshot, "az", 0)?, Some(1))?
-            && find(rt, alloc, timeline, &sink(&snapshot, 6)?, None)?,
-    )
-}
-
-/// Returns the number of the refusal of a search by so many workers.
-fn refused<R: Threads + Sync>(
-    rt: &R,
-    alloc: Global,
-    timeline: &Timeline,
-    range: (u64, u64),
-    workers: u64,
-) -> Option<u64> {
-    let snapshot = Snapshot::of(alloc, timeline, 0).ok()?;
-    let five = sink(&snapshot, 5)?;
-    let (lo, hi) = range;
-    let answer = search(rt, alloc, &snapshot, &five, lo, hi, workers, &OpenGate);
-    Some(answer.err()?.code().number())
-}
-
-/// Returns whether searches of a feed and its take are answered so.
-fn are_answered<R: Threads + Sync>(rt: &R, alloc: Global) -> Option<bool> {
-    let steps = (
-        Told::Feed(0, "a", &[5], Next::Close),
-        Told::Take(0, "az", &[0], 5),
-    );
-    let timeline = kept(alloc, alloc, 0, Some(steps), 0)?;
-    Some(
-        find_each(rt, alloc, &timeline)?
-            && refused(rt, alloc, &timeline, (2, 1), 8)? == 50
-            && refused(rt, alloc, &timeline, (0, 2), 0)? == 51
-            && refused(rt, alloc, &timeline, (0, 3), 8)? == 22,
-    )
-}
-
-#[test]
-fn searches(rt: HostRuntime) {
-    assert!(rt; are_answered(&rt, rt.alloc()) == Some(true));
 }
 
 /// Which worker reached each of two pieces, counted from 1; 0 if none did.
@@ -185,7 +90,7 @@ impl<R: Clock + Sync> Gate for Held<'_, R> {
 
 /// Returns whether two workers were in pieces at the same time, each in one, and found nothing.
 fn are_at_the_same_time<R: Threads + Sync + Clock>(rt: &R, alloc: Global) -> Option<bool> {
-    let snapshot = fed(alloc, alloc, 31, None, 0)?;
+    let snapshot = fed(alloc, alloc, 31)?;
     let nowhere = count(&snapshot, "az", 0)?;
     let gate = Held(Sign::new(rt), Recorded::new());
     let found = search(rt, alloc, &snapshot, &nowhere, 0, 31, 2, &gate).ok()?;
@@ -217,42 +122,26 @@ impl Gate for Counted {
     }
 }
 
-/// Whether the token at epoch 39 is searched, or the value 5 at the sink; the range, its number of pieces, and the hit.
-type Row = (bool, u64, u64, u64, Option<u64>);
+/// The range of a search for the token at epoch 39, how many pieces the range has, and the hit.
+type Row = (u64, u64, u64, Option<u64>);
 
-/// The take is step 16, so the value is counted from there on; the token is at epoch 30 at 31, and at 39 at 40.
-static ROWS: [Row; 10] = [
-    (false, 0, 40, 3, Some(16)),
-    (false, 17, 40, 2, Some(17)),
-    (false, 0, 15, 1, None),
-    (false, 15, 15, 1, None),
-    (false, 16, 16, 1, Some(16)),
-    (true, 0, 40, 3, Some(40)),
-    (true, 25, 40, 1, Some(40)),
-    (true, 24, 40, 2, Some(40)),
-    (true, 0, 39, 3, None),
-    (true, 40, 40, 1, Some(40)),
+/// Of 40 feeds of nothing, the one that leads to position 39 moves the token to epoch 39.
+static ROWS: [Row; 7] = [
+    (0, 40, 3, Some(39)),
+    (25, 40, 1, Some(39)),
+    (24, 40, 2, Some(39)),
+    (0, 38, 3, None),
+    (40, 40, 1, None),
+    (39, 39, 1, Some(39)),
+    (7, 22, 1, None),
 ];
-
-/// Returns the line that is searched.
-fn searched_line(alloc: Global) -> Option<Snapshot> {
-    let steps = (
-        Told::Feed(0, "a", &[5], Next::Next),
-        Told::Take(0, "az", &[14], 5),
-    );
-    fed(alloc, alloc, 14, Some(steps), 24)
-}
 
 /// Returns whether a search by `workers` workers finds the hit of its row, and calls the gate once for
 /// each piece.
 fn hits<R: Threads + Sync>(rt: &R, alloc: Global, row: &Row, workers: u64) -> Option<bool> {
-    let snapshot = searched_line(alloc)?;
-    let (is_token, lo, hi, pieces, wanted) = *row;
-    let condition = if is_token {
-        count(&snapshot, "a", 39)?
-    } else {
-        sink(&snapshot, 5)?
-    };
+    let snapshot = fed(alloc, alloc, 40)?;
+    let (lo, hi, pieces, wanted) = *row;
+    let condition = count(&snapshot, "a", 39)?;
     let gate = Counted {
         workers: workers.min(64),
         pieces,
@@ -450,43 +339,5 @@ fn stops_at_the_gate<A: Allocator + Copy + Send + Sync, R: Threads + Sync>(
 fn the_gate_is_called_before_the_walk(rt: HostRuntime) {
     let heap = Refusing::new(rt.alloc());
     assert!(rt; stops_at_the_gate(&rt, &heap, rt.alloc(), &heap) == Some(true));
-    assert!(rt; heap.live() == 0);
-}
-
-/// Returns whether making a snapshot, or a copy of one, met the refused request.
-fn meets<A: Allocator + Copy>(
-    heap: &Heap,
-    json: Global,
-    alloc: A,
-    is_copy: bool,
-    n: u64,
-) -> Option<bool> {
-    let mut timeline = Timeline::new(alloc, start(json, alloc, LINE, 1)?).ok()?;
-    forward(alloc, &mut timeline, &NOTHING, 2)?;
-    if is_copy {
-        let snapshot = Snapshot::of(alloc, &timeline, 7).ok()?;
-        met!(heap, n: snapshot.copy(alloc); AllocError, true)
-    } else {
-        met!(heap, n: Snapshot::of(alloc, &timeline, 7); AllocError, true)
-    }
-}
-
-/// Returns how many requests were refused before the call met none.
-fn snapshots<A: Allocator + Copy>(
-    heap: &Heap,
-    json: Global,
-    alloc: A,
-    is_copy: bool,
-) -> Option<u64> {
-    in_turn!(n: meets(heap, json, alloc, is_copy, n))
-}
-
-#[test]
-fn snapshots_out_of_memory(rt: HostRuntime) {
-    let heap = Refusing::new(rt.alloc());
-    for is_copy in [false, true] {
-        let count = snapshots(&heap, rt.alloc(), &heap, is_copy);
-        assert!(rt; matches!(count, Some(n) if n > 0));
-    }
     assert!(rt; heap.live() == 0);
 }

@@ -1,22 +1,16 @@
 //! Sessions: clients in threads, unknown clients, openings, and a search beside a command.
 
-use crate::equal_graphs::are_same;
-use crate::graphs::{
-    ADD, DISTINCT, EMPTY, EXCHANGE, FILTER, HELD, LINE, LOOP, NESTED_LOOP, SPLIT, SUM, TWO_WAYS,
-    graph_of, point, time,
-};
 use crate::opened::{NOTHING, command_of, only, opened, session_of};
-use crate::scripts::{start, state_text};
 use nd_breaks::{Atom, Condition};
-use nd_cluster::Cluster;
+use nd_examples::{
+    ADD, DISTINCT, EMPTY, EXCHANGE, FILTER, HELD, LINE, LOOP, NESTED_LOOP, SPLIT, SUM, TWO_WAYS,
+    graph_of, point, start, state_text,
+};
+use nd_graph::Graph;
 use nd_history::{Gate, search};
-use nd_mesh::Mesh;
-use nd_processor::Processor;
 use nd_session::{Client, CloseWhy, Log, Receipt, Session, SessionFault};
 use nd_testing::Sign;
 use nd_timeline::{Command, Fault, Reply};
-use nd_vertex::VertexState;
-use nd_view::View;
 use std::alloc::Global;
 use std::rt::Clock;
 use std::sync::Wait;
@@ -119,14 +113,14 @@ fn log_of_two<R: Wait + Threads + Sync>(rt: &R, alloc: Global) -> Option<Log> {
     closed(alloc, session, first, second)
 }
 
-/// Returns whether the log is of the ten feeds, each client's in order, and is copied as it is.
+/// Returns whether the log is of the ten feeds, each client's in order.
 fn is_of_two(alloc: Global, log: &Log) -> Option<bool> {
     let feed = feeds(alloc, 1)?.pop()?;
     let entries = log.entries.as_slice();
     let is_whole = (entries.len(), log.entered) == (10, 2) && are_feeds(entries, &feed);
     let are_in_order = are_numbered(entries, 0, 5) && are_numbered(entries, 1, 5);
     let is_kept = (log.timeline.at(), log.timeline.kept()) == (10, 10);
-    Some(is_whole && are_in_order && is_kept && copies(alloc, log)?)
+    Some(is_whole && are_in_order && is_kept)
 }
 
 /// Returns whether two clients leave such a log.
@@ -137,64 +131,6 @@ fn leave_their_log<R: Wait + Threads + Sync>(rt: &R, alloc: Global) -> Option<bo
 #[test]
 fn two_clients(rt: HostRuntime) {
     assert!(rt; leave_their_log(&rt, rt.alloc()) == Some(true));
-}
-
-/// Returns a cluster of copies of the parts of a cluster of one processor with empty queues.
-fn of_copies(alloc: Global, cluster: &Cluster) -> Option<Cluster> {
-    let _ = cluster.n();
-    let graph = cluster.graph().copy(alloc).ok()?;
-    let Ok(paths) = cluster.paths().copy(alloc) else {
-        return None;
-    };
-    let processor: Processor = cluster.processor(0).copy(alloc).ok()?;
-    let Ok(view) = cluster.view(0).copy(alloc) else {
-        return None;
-    };
-    let mesh = Mesh::new(alloc, 1).ok()?.copy(alloc).ok()?;
-    let mut processors = Vec::new(alloc);
-    processors.push(processor).ok()?;
-    let mut views: Vec<View> = Vec::new(alloc);
-    views.push(view).ok()?;
-    if !are_same(&graph, cluster.graph()) || !are_same(paths.graph(), &graph) {
-        return None;
-    }
-    Cluster::of_parts(alloc, cluster.graph(), paths, processors, views, mesh)
-}
-
-/// Returns whether the copies of a change and of a vertex's state are equal to them.
-fn copies_of_maps(alloc: Global, cluster: &Cluster) -> Option<bool> {
-    let _ = cluster.n();
-    let unsent = cluster.processor(0).unsent();
-    let copy = unsent.copy(alloc).ok()?.whole(alloc).ok()?;
-    let whole = unsent.whole(alloc).ok()?;
-    let mut state = VertexState::new(alloc);
-    let zero = time(&[0])?;
-    let old = state.get(&zero, 7);
-    state.set(&zero, 7, old, Some(2)).ok()?;
-    let copied = state.copy(alloc).ok()?;
-    Some(copy.len() > 0 && copy.entries() == whole.entries() && copied.get(&zero, 7) == Some(2))
-}
-
-/// Returns whether the copies of what a session leaves are equal: of its cluster and its parts, a kept step, a planned record and
-/// a receipt.
-fn copies(alloc: Global, log: &Log) -> Option<bool> {
-    let cluster = log.timeline.cluster();
-    let text = state_text(alloc, cluster)?;
-    let whole = state_text(alloc, &cluster.copy(alloc).ok()?)?;
-    let parts = state_text(alloc, &of_copies(alloc, cluster)?)?;
-    let step = log.timeline.step(0)?;
-    let record = cluster.plan(step).ok()?;
-    let again = record.copy(alloc).ok()?;
-    let receipt = log.entries.first()?;
-    Some(
-        whole.as_str() == text.as_str()
-            && parts.as_str() == text.as_str()
-            && copies_of_maps(alloc, cluster)?
-            && step.copy(alloc).ok()?.same(step)
-            && again.step.same(step)
-            && again.entries() == record.entries()
-            && receipt.copy(alloc).ok()?.same(receipt),
-    )
 }
 
 /// Returns whether a call fails with error 26, this index, and this entry or none.
@@ -307,6 +243,16 @@ static STARTS: [&str; 12] = [
     HELD,
     EMPTY,
 ];
+
+/// Returns whether two graphs have the same locations, of the same names and depths, and the same arcs.
+fn are_same(one: &Graph, other: &Graph) -> bool {
+    for location in 0..one.location_count() {
+        if other.location_of(one.location_name(location)) != Some(location) {
+            return false;
+        }
+    }
+    one.depths() == other.depths() && one.all_arcs() == other.all_arcs()
+}
 
 /// Returns whether the first copy from a session is of the initial state.
 fn opens<R: Wait>(rt: &R, alloc: Global, text: &str, n: u32) -> Option<bool> {

@@ -1,13 +1,11 @@
 //! Tests of timelines and breakpoints: each request for memory of a move and of a walk refused in turn, calls that
-//! take no memory, copies, calls with ample memory, worked examples by their names, and runs of some processors.
+//! take no memory, copies, and far jumps.
 
 mod checkpoints;
 mod conditions;
-mod effects;
 mod memory;
 mod succeeds;
 mod walks;
-mod worked;
 
 use nd_breaks::Breaks;
 use nd_protocol::Processors;

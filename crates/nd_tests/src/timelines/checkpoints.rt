@@ -1,11 +1,10 @@
-//! Far jumps over long runs: where they land, after a cut too, while memory is refused, and how many checkpoints there are.
+//! Checkpoints of long runs: far jumps while memory is refused, and how many checkpoints there are.
 
-use crate::graphs::ENDLESS;
-use crate::scripts::{Told, is_state, start, state_text, step_of};
 use crate::timelines::memory::Heap;
 use crate::timelines::run_all;
 use nd_breaks::Breaks;
 use nd_cluster::{Next, Step, Values};
+use nd_examples::{ENDLESS, Told, is_state, start, state_text, step_of};
 use nd_testing::{MANY, Refusing};
 use nd_timeline::{Fault, Timeline};
 use std::alloc::{Allocator, Global};
@@ -31,59 +30,13 @@ fn is_led_to<A: Allocator + Copy>(json: Global, alloc: A, timeline: &Timeline<A>
     Some(is_state(json, timeline.cluster(), wanted.as_str()))
 }
 
-/// Returns whether jumps to all of these positions arrive there.
-fn lands<A: Allocator + Copy>(
-    json: Global,
-    alloc: A,
-    timeline: &mut Timeline<A>,
-    positions: &[u64],
-) -> Option<bool> {
-    for n in positions {
-        timeline.jump(*n).ok()?;
-        if timeline.at() != *n || !is_led_to(json, alloc, timeline)? {
-            return Some(false);
-        }
-    }
-    Some(true)
-}
-
-/// Positions around those of checkpoints, far apart from one another.
-static AROUND: [u64; 12] = [
-    5000, 0, 4999, 1024, 4096, 1, 1023, 3072, 1025, 4998, 2049, 2047,
-];
-
-/// Returns whether far jumps over a run of 5,000 steps arrive, and still do after other steps have replaced most of them.
-fn jumps<A: Allocator + Copy>(json: Global, alloc: A) -> Option<bool> {
-    let mut timeline = looped(json, alloc)?;
-    run_all(&mut timeline, 4998, &Breaks::new(alloc).ok()?).ok()?;
-    let first = lands(json, alloc, &mut timeline, &AROUND)?;
-    timeline.jump(1500).ok()?;
-    let told = Told::Feed(0, "a", &[7, 8, 9], Next::Next);
-    let step = step_of(alloc, timeline.cluster().graph(), &told)?;
-    timeline.forward(&step).ok()?;
-    run_all(&mut timeline, 3499, &Breaks::new(alloc).ok()?).ok()?;
-    Some(first && lands(json, alloc, &mut timeline, &AROUND)?)
-}
-
-#[test]
-fn far_jumps_land(rt: HostRuntime) {
-    let heap = Refusing::new(rt.alloc());
-    assert!(rt; jumps(rt.alloc(), &heap) == Some(true));
-    assert!(rt; heap.live() == 0);
-}
-
 /// Returns whether a run over a position where a checkpoint is due met the refused request, and whether the run continued.
 ///
 /// Returns `None` if the timeline is not at the reported position, or if the run stopped although it met no refusal.
-fn meets_run<A: Allocator + Copy>(
-    heap: &Heap,
-    json: Global,
-    alloc: A,
-    n: u64,
-) -> Option<(bool, bool)> {
-    let mut timeline = looped(json, alloc)?;
-    run_all(&mut timeline, 1020, &Breaks::new(alloc).ok()?).ok()?;
-    let breaks = Breaks::new(alloc).ok()?;
+fn meets_run(heap: &Heap, json: Global, n: u64) -> Option<(bool, bool)> {
+    let mut timeline = looped(json, heap)?;
+    run_all(&mut timeline, 1020, &Breaks::new(heap).ok()?).ok()?;
+    let breaks = Breaks::new(heap).ok()?;
     heap.refuse(n);
     let ran = run_all(&mut timeline, 10, &breaks);
     let met = heap.relent(n);
@@ -92,7 +45,7 @@ fn meets_run<A: Allocator + Copy>(
         Ok(_) => timeline.at() == 1032,
         Err(fault) => met && fault == Fault::Memory { at: timeline.at() },
     };
-    if is_said && is_led_to(json, alloc, &timeline)? {
+    if is_said && is_led_to(json, heap, &timeline)? {
         Some((met, goes_on))
     } else {
         None
@@ -100,10 +53,10 @@ fn meets_run<A: Allocator + Copy>(
 }
 
 /// Returns how many refusals were unnoticed before the first of such runs that met none.
-fn unnoticed_in_runs<A: Allocator + Copy>(heap: &Heap, json: Global, alloc: A) -> Option<u64> {
+fn unnoticed_in_runs(heap: &Heap, json: Global) -> Option<u64> {
     let mut count: u64 = 0;
     for n in 0..MANY {
-        let (met, goes_on) = meets_run(heap, json, alloc, n)?;
+        let (met, goes_on) = meets_run(heap, json, n)?;
         if !met {
             return Some(count);
         }
@@ -115,11 +68,11 @@ fn unnoticed_in_runs<A: Allocator + Copy>(heap: &Heap, json: Global, alloc: A) -
 }
 
 /// Does the same for jumps over 1,500 steps of one timeline, which begin at a checkpoint.
-fn unnoticed_in_jumps<A: Allocator + Copy>(heap: &Heap, json: Global, alloc: A) -> Option<u64> {
-    let mut timeline = looped(json, alloc)?;
-    run_all(&mut timeline, 2598, &Breaks::new(alloc).ok()?).ok()?;
+fn unnoticed_in_jumps(heap: &Heap, json: Global) -> Option<u64> {
+    let mut timeline = looped(json, heap)?;
+    run_all(&mut timeline, 2598, &Breaks::new(heap).ok()?).ok()?;
     timeline.jump(1100).ok()?;
-    if !is_led_to(json, alloc, &timeline)? {
+    if !is_led_to(json, heap, &timeline)? {
         return None;
     }
     let wanted = state_text(json, timeline.cluster())?;
@@ -152,7 +105,7 @@ fn unnoticed_in_jumps<A: Allocator + Copy>(heap: &Heap, json: Global, alloc: A) 
 #[test]
 fn checkpoints_out_of_memory(rt: HostRuntime) {
     let heap = Refusing::new(rt.alloc());
-    let count = unnoticed_in_runs(&heap, rt.alloc(), &heap);
+    let count = unnoticed_in_runs(&heap, rt.alloc());
     assert!(rt; matches!(count, Some(n) if n > 3));
     assert!(rt; heap.live() == 0);
 }
@@ -160,7 +113,7 @@ fn checkpoints_out_of_memory(rt: HostRuntime) {
 #[test]
 fn far_jumps_out_of_memory(rt: HostRuntime) {
     let heap = Refusing::new(rt.alloc());
-    let count = unnoticed_in_jumps(&heap, rt.alloc(), &heap);
+    let count = unnoticed_in_jumps(&heap, rt.alloc());
     assert!(rt; matches!(count, Some(n) if n > 3));
     assert!(rt; heap.live() == 0);
 }
@@ -182,20 +135,15 @@ fn fill<A: Allocator + Copy>(alloc: A, timeline: &mut Timeline<A>, count: i64) -
 
 /// Returns how many blocks of memory the checkpoints of a run of 20,000 steps take, and how many the state saved at its end
 /// takes, with this many records in the loop.
-fn blocks<A: Allocator + Copy>(
-    heap: &Heap,
-    json: Global,
-    alloc: A,
-    records: i64,
-) -> Option<(u64, u64)> {
-    let mut timeline = Timeline::new(alloc, start(json, alloc, ENDLESS, 1)?).ok()?;
-    fill(alloc, &mut timeline, records)?;
-    run_all(&mut timeline, 20_000, &Breaks::new(alloc).ok()?).ok()?;
+fn blocks(heap: &Heap, json: Global, records: i64) -> Option<(u64, u64)> {
+    let mut timeline = Timeline::new(heap, start(json, heap, ENDLESS, 1)?).ok()?;
+    fill(heap, &mut timeline, records)?;
+    run_all(&mut timeline, 20_000, &Breaks::new(heap).ok()?).ok()?;
     let with = heap.live();
-    let saved = timeline.cluster().saved(alloc).ok()?;
+    let saved = timeline.cluster().saved(heap).ok()?;
     let one = heap.live().saturating_sub(with);
     drop(saved);
-    let copy = timeline.copy(alloc).ok()?;
+    let copy = timeline.copy(heap).ok()?;
     drop(timeline);
     let without = heap.live();
     drop(copy);
@@ -203,14 +151,8 @@ fn blocks<A: Allocator + Copy>(
 }
 
 /// Returns whether there are this many checkpoints, judged by their blocks, or one more or less.
-fn has_about<A: Allocator + Copy>(
-    heap: &Heap,
-    json: Global,
-    alloc: A,
-    records: i64,
-    count: u64,
-) -> Option<bool> {
-    let (all, one) = blocks(heap, json, alloc, records)?;
+fn has_about(heap: &Heap, json: Global, records: i64, count: u64) -> Option<bool> {
+    let (all, one) = blocks(heap, json, records)?;
     let least = one.saturating_mul(count.saturating_sub(1));
     let most = one.saturating_mul(count.saturating_add(1));
     Some(one > 0 && least <= all && all <= most)
@@ -220,7 +162,7 @@ fn has_about<A: Allocator + Copy>(
 fn checkpoints_are_few(rt: HostRuntime) {
     let heap = Refusing::new(rt.alloc());
     for (records, count) in [(2, 19), (300, 9), (1000, 4)] {
-        let has = has_about(&heap, rt.alloc(), &heap, records, count);
+        let has = has_about(&heap, rt.alloc(), records, count);
         assert!(rt; has == Some(true), "with {records} records");
     }
     assert!(rt; heap.live() == 0);

@@ -1,0 +1,138 @@
+//! The worked examples of calls that no line of a script makes, by their names.
+
+use nd_delta::{Delta, DeltaFault, LargeDelta};
+use nd_examples::{
+    LINE, LOOP, TWO_WAYS, are_entries, change, graph_of, len, paths_of, point, pop, push, unpop,
+    unpush,
+};
+use nd_mesh::{LIMIT, Mesh, PushFault};
+use nd_paths::{Constants, Paths, Summary};
+use std::alloc::Global;
+
+/// Builds a summary, or returns `None` if there are too many constants.
+fn summary(keep: usize, add: u32, constants: &[u32]) -> Option<Summary> {
+    Some(Summary {
+        keep,
+        add,
+        constants: Constants::new(constants)?,
+    })
+}
+
+/// Returns whether the summaries from one location to another are `wanted`.
+fn are_summaries(paths: &Paths, from: &str, to: &str, wanted: &[Summary]) -> Option<bool> {
+    let graph = paths.graph();
+    let (from, to) = (graph.location_of(from)?, graph.location_of(to)?);
+    if from >= graph.location_count() || to >= graph.location_count() {
+        return None;
+    }
+    let found = paths.summaries(from, to);
+    Some(found.as_slice() == wanted)
+}
+
+/// Returns whether the summaries of *loop* and of *two-ways* are as the examples say: of a path into the loop, of one
+/// around it, and of two ways, one that keeps the counter and one that drops it.
+fn are_all(alloc: Global) -> Option<bool> {
+    let enters = summary(0, 0, &[1])?;
+    let stays = summary(1, 0, &[])?;
+    let one = paths_of(alloc, alloc, LOOP)?;
+    let two = paths_of(alloc, alloc, TWO_WAYS)?;
+    Some(
+        are_summaries(&one, "a", "fm", &[enters.copy()])?
+            && are_summaries(&one, "f", "f", &[stays.copy()])?
+            && are_summaries(&two, "x", "z", &[stays, enters])?,
+    )
+}
+
+/// Checks the worked examples *summaries-of-the-loop* and *two-summaries*.
+#[test]
+fn summaries(rt: HostRuntime) {
+    assert!(rt; are_all(rt.alloc()) == Some(true));
+}
+
+/// Returns whether what is added at a point is kept up to the limit.
+fn is_limited(alloc: Global) -> Option<bool> {
+    let graph = graph_of(alloc, alloc, LINE)?;
+    let p = point(&graph, "a", &[0])?;
+    let mut delta = Delta::new(alloc);
+    delta.add(&p, 1_099_511_627_776).ok()?;
+    let is_full = delta.add(&p, 1) == Err(DeltaFault::DeltaFull);
+    let is_kept = delta.get(&p) == 1_099_511_627_776;
+    delta.add(&p, -1_099_511_627_776).ok()?;
+    Some(is_full && is_kept && delta.len() == 0)
+}
+
+/// Returns whether the sums, the differences and the part of two changes are what they should be.
+fn sums(alloc: Global) -> Option<bool> {
+    let graph = graph_of(alloc, alloc, LINE)?;
+    let r = point(&graph, "z", &[0])?;
+    let one = change(alloc, &graph, &[("a", 0, 2)])?;
+    let other = change(alloc, &graph, &[("a", 0, -2), ("z", 0, 1)])?;
+    let mut large = LargeDelta::new(alloc);
+    large.put(&point(&graph, "a", &[0])?, 2).ok()?;
+    let sum = large.combine(alloc, &other, false).ok()?.whole(alloc).ok()?;
+    let difference = large.combine(alloc, &other, true).ok()?.whole(alloc).ok()?;
+    let part = other.part(alloc, &[r.copy(), r]).ok()?;
+    Some(
+        are_entries(&graph, sum.entries(), &[("z", 0, 1)])
+            && are_entries(&graph, difference.entries(), &[("a", 0, 4), ("z", 0, -1)])
+            && one.plus(alloc, &other).ok()?.entries() == sum.entries()
+            && one.minus(alloc, &other).ok()?.entries() == difference.entries()
+            && part.entries() == sum.entries(),
+    )
+}
+
+#[test]
+fn change_limits(rt: HostRuntime) {
+    assert!(rt; is_limited(rt.alloc()) == Some(true));
+    assert!(rt; sums(rt.alloc()) == Some(true));
+}
+
+/// Pushes the change until the queue refuses it: how often it took it, if it is full then.
+fn pushed(mesh: &mut Mesh, change: &Delta) -> Option<usize> {
+    for n in 0..=LIMIT {
+        match push(mesh, 0, change)? {
+            Ok(()) => {}
+            Err(PushFault::QueueFull) => return Some(n),
+            Err(_) => return None,
+        }
+    }
+    None
+}
+
+/// Returns whether a queue takes changes up to the limit, and one more once one is out.
+fn is_full_at_the_limit(alloc: Global) -> Option<bool> {
+    let graph = graph_of(alloc, alloc, LINE)?;
+    let change = change(alloc, &graph, &[("a", 0, 1)])?;
+    let mut mesh = Mesh::new(alloc, 1).ok()?;
+    let is_full = pushed(&mut mesh, &change)? == LIMIT;
+    pop(&mut mesh, 0, 0)?;
+    Some(is_full && push(&mut mesh, 0, &change)?.is_ok())
+}
+
+#[test]
+fn queue_ends(rt: HostRuntime) {
+    assert!(rt; is_full_at_the_limit(rt.alloc()) == Some(true));
+}
+
+/// Returns whether a change passes through new queues of one processor, and back.
+fn goes_through(alloc: Global, change: &Delta) -> Option<bool> {
+    let mut mesh = Mesh::new(alloc, 1).ok()?;
+    let is_new = pop(&mut mesh, 0, 0).is_none() && !unpush(&mut mesh, 0)?;
+    push(&mut mesh, 0, change)?.ok()?;
+    let popped = pop(&mut mesh, 0, 0)?;
+    let is_same = popped.entries() == change.entries();
+    unpop(&mut mesh, 0, 0, popped)?.ok()?;
+    let is_put = len(&mesh, 0, 0) == Some(1) && unpush(&mut mesh, 0)?;
+    Some(is_new && is_same && is_put && len(&mesh, 0, 0) == Some(0))
+}
+
+/// Does the same for a change of two entries.
+fn two_go_through(alloc: Global) -> Option<bool> {
+    let graph = graph_of(alloc, alloc, LINE)?;
+    goes_through(alloc, &change(alloc, &graph, &[("a", 0, -1), ("z", 0, 2)])?)
+}
+
+#[test]
+fn queue_ends_when_new(rt: HostRuntime) {
+    assert!(rt; two_go_through(rt.alloc()) == Some(true));
+}

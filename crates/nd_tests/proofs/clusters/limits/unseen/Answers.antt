@@ -1,4 +1,0 @@
-use Rattle.nd_tests.proofs.clusters.limits.unseen.Goals as goal
-
-pub returns : goal.returns
-returns g c = c.new.ensures.for_all c.args.paths.now
