@@ -3,7 +3,7 @@
 
 use crate::refused::Heap;
 use nd_cluster::{Cluster, Next, Step};
-use nd_examples::{DISTINCT, is_state, start, state_text, values_of};
+use nd_examples::{DISTINCT, is_state, make, start, state_text, values_of};
 use nd_testing::{Refusing, unasked};
 use std::alloc::{Allocator, Global};
 
@@ -12,7 +12,7 @@ fn go<A: Allocator + Copy>(cluster: &mut Cluster<A>, step: &Step<A>) -> Option<(
     let record = cluster.plan(step).ok()?;
     cluster.commit(&record).ok()?;
     cluster.back(&record).ok()?;
-    cluster.commit(&record).ok()
+    make(cluster, step)
 }
 
 /// Feeds a value at each of `count` epochs, and then executes the first enabled step `steps` times.
