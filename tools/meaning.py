@@ -1,9 +1,10 @@
 """Which of the prover's lines show that a body breaks its contract.
 
 An edit counts if a clause is left open: what the function ensures, an invariant of its loop or of its type,
-or what a function that it calls requires by a named clause. An index out of range or a sum that may not fit
-shows nothing of the contract. An answer that names what the edit took away, or a tactic that stopped at a
-limit of its own, might refuse a right body that is written otherwise, too."""
+or what a function that it calls requires by a named clause. That is so, too, if the answer to such a goal does
+not fit any more. An index out of range or a sum that may not fit shows nothing of the contract. An answer that
+names what the edit took away, or a tactic that stopped at a limit of its own, might refuse a right body that
+is written otherwise, too."""
 import enum
 import re
 
@@ -57,12 +58,11 @@ def strongest(lines):
     return min((it for it in shown if it[0] is not None), key=lambda it: it[0], default=None)
 
 
+COUNTS = (Kind.CLAUSE, Kind.MISFIT)
 # what is said of an edit that does not count, by the strongest line
-ADVICE = "turn something else, or add a line '-- right: TEXT'"
+ADVICE = "turn something else, or name a right body that is proved in a line '-- right: TEXT'"
 WHY_NOT = {
-    Kind.CLAUSE: "the right body that it names is not proved",
     Kind.NAMES: f"answers name what it took away, and a right body might be refused so, too ({ADVICE})",
-    Kind.MISFIT: "an answer does not fit, but without that answer the function is proved",
     Kind.LIMIT: f"a tactic stopped at a limit of its own ({ADVICE})",
     Kind.OTHER: "no clause, invariant or named condition is left open",
 }

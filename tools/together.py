@@ -13,12 +13,11 @@ where another changes what a function takes, are tried together again, as long a
 not refused so is tried again with the rest, and at last alone, over what the earlier checks of this run
 proved and then from nothing.
 
-Where a body that is right might be refused in the same way, there is a second trial, again of all in one
-copy. An edit may have lines `-- right: TEXT`, one for each pair: a right body in the form of the wrong one.
-The refusal counts if the function is proved with it. Without such a line the answers that do not fit are left
-out, so that the prover searches for them. If the function is proved so, the edit is no wrong body. If answers
-named what the edit took away, the refusal counts only if a clause is open even so, and the function as it was
-is proved without these answers. A tactic that stopped at its own limit alone needs the right body."""
+Two refusals count only after a second trial, since a right body might meet them, too. If a tactic stopped at
+a limit of its own, the edit needs lines `-- right: TEXT`, one for each pair: a right body in the form of the
+wrong one, with which the function is proved in the same check. If answers name what the edit took away, such
+lines serve, too. Otherwise these answers are left out, so that the prover searches: a clause must be open with
+the edit, and the function as it was must be proved."""
 import collections
 import copy
 import functools
@@ -30,7 +29,7 @@ import shutil
 import tempfile
 import threading
 
-from meaning import WHY_NOT, Kind, strongest, wrong_answers
+from meaning import COUNTS, WHY_NOT, Kind, strongest, wrong_answers
 
 FUNCTION = re.compile(r"\s*(?:pub(?:\([^)]*\))?\s+)?(?:const\s+)?(?:unsafe\s+)?fn\s+(\w+)")
 TYPE = re.compile(r"^(?:pub(?:\([^)]*\))?\s+)?(?:struct|enum)\s+(\w+)", re.MULTILINE)
@@ -436,17 +435,6 @@ def asked(rt, crate, edits, texts, flags, kept, wrong=()):
     return verdicts, [it for it in whole(lines) if AGAINST.match(it)], []
 
 
-def said_together(rt, crate, edits, texts, flags, kept, wrong=()):
-    """For each of these edits that one check refuses, the lines against each of its functions; and the edits
-    that keep it from judging."""
-    verdicts, told, barred = asked(rt, crate, edits, texts, flags, kept, wrong)
-    said = {
-        it: {at: lines for at in functions if (lines := lines_against(verdicts, told, at))}
-        for it, functions in edits.items()
-    }
-    return {it: found for it, found in said.items() if shown(found)}, barred
-
-
 def shown(found):
     """The strongest of the lines against an edit's functions, after what it shows; None if none shows
     anything."""
@@ -462,23 +450,25 @@ def own_name(function):
     return re.fullmatch(rf"(.*?)(?:{AGAIN})*", function.names)[1]
 
 
-# A second trial: a file with the edit to be tried, and the answers to be left out, goals by function.
-Again = collections.namedtuple("Again", "path wrong")
+# A trial: the file of an edit, and the answers to be left out, goals by function.
+Trial = collections.namedtuple("Trial", "path wrong")
 
 
 def outcomes(rt, crate, trials, flags, kept):
-    """For the file of each second trial whether its functions are proved, and the strongest line against
-    them; nothing for one that cannot be read."""
+    """For the file of each trial whether its functions are proved, and the lines against each of them; nothing
+    for one that cannot be read, or that changes anything else."""
     wrong, found = {it.path: it.wrong for it in trials}, {}
 
     def judge(left):
         together, texts = chosen(crate.folder, left)
+        if not together:
+            return
         edited = [(it, at) for it, functions in together.items() for at in functions]
         goals = {at: wrong[it].get(own_name(at), ()) for it, at in edited}
-        verdicts, told, barred = asked(rt, crate, together, texts, flags, kept, goals) if together else ({}, [], left)
+        verdicts, told, barred = asked(rt, crate, together, texts, flags, kept, goals)
         for it, functions in together.items() if not barred else ():
             lines = {at: lines_against(verdicts, told, at) for at in functions}
-            found[it] = all(is_proved(verdicts, at) for at in functions), shown(lines)
+            found[it] = all(is_proved(verdicts, at) for at in functions), lines
         rest = [it for it in left if it not in (barred or together)]
         if rest:
             judge(rest)
@@ -488,41 +478,35 @@ def outcomes(rt, crate, trials, flags, kept):
     return found
 
 
-def second_trial(rt, crate, doubtful, flags, kept):
-    """The line for which those of the doubtful edits count that do, which are given with the lines against
-    their functions."""
-    with tempfile.TemporaryDirectory(prefix="rt-again-") as room:
+def first_trial(rt, crate, edits, flags, kept, room):
+    """The lines against the functions of each edit that is refused, and those edits that name a right body
+    with which the function is proved."""
+    rights = {it: f"{room}/right-{number}" for number, it in enumerate(edits) if right_bodies(it)}
+    for edit, path in rights.items():
+        write_edit(edit, right_bodies(edit), path)
+    trials = [Trial(it, {}) for it in [*edits, *rights.values()]]
+    found = outcomes(rt, crate, trials, flags, kept)
+    refused = {it: found[it][1] for it in edits if it in found and shown(found[it][1])}
+    return refused, {it for it, path in rights.items() if found.get(path, (False,))[0]}
 
-        def trial(edit, texts, wrong):
-            path = tempfile.mkstemp(dir=room)[1]
-            write_edit(edit, texts, path)
-            return Again(path, wrong)
 
-        rights, searches, controls = {}, {}, {}
-        for edit, found in doubtful.items():
-            kind, _ = shown(found)
-            wrong = {own_name(at): wrong_answers(lines) for at, lines in found.items()}
-            if right_bodies(edit):
-                rights[edit] = trial(edit, right_bodies(edit), {})
-            elif kind in (Kind.NAMES, Kind.MISFIT):
-                searches[edit] = trial(edit, [new for _, _, new in pairs(edit)], wrong)
-                if kind is Kind.NAMES:
-                    controls[edit] = trial(edit, [old for _, old, _ in pairs(edit)], wrong)
-        trials = [*rights.values(), *searches.values(), *controls.values()]
-        came_to = outcomes(rt, crate, trials, flags, kept)
-
-    def outcome(trial):
-        return came_to.get(trial.path, (False, None))
-
-    def counts(edit):
-        if edit in rights:
-            return outcome(rights[edit])[0]
-        proved, line = outcome(searches[edit])
-        if edit not in controls:
-            return not proved
-        return line is not None and line[0] is Kind.CLAUSE and outcome(controls[edit])[0]
-
-    return {it: shown(doubtful[it])[1] for it in [*rights, *searches] if counts(it)}
+def second_trial(rt, crate, doubtful, flags, kept, room):
+    """The clause that is open in each of these edits, which are given with the lines against their functions,
+    without the answers that do not fit, where the function as it was is proved without them."""
+    with_edit, as_it_was = {}, {}
+    for number, (edit, found) in enumerate(doubtful.items()):
+        wrong = {own_name(at): wrong_answers(lines) for at, lines in found.items()}
+        with_edit[edit] = Trial(f"{room}/edit-{number}", wrong)
+        as_it_was[edit] = Trial(f"{room}/was-{number}", wrong)
+        write_edit(edit, [new for _, _, new in pairs(edit)], with_edit[edit].path)
+        write_edit(edit, [old for _, old, _ in pairs(edit)], as_it_was[edit].path)
+    found = outcomes(rt, crate, [*with_edit.values(), *as_it_was.values()], flags, kept)
+    clauses = {it: shown(found[trial.path][1]) for it, trial in with_edit.items() if trial.path in found}
+    return {
+        it: clause[1]
+        for it, clause in clauses.items()
+        if clause and clause[0] is Kind.CLAUSE and found.get(as_it_was[it].path, (False,))[0]
+    }
 
 
 def tried_alone(rt, crate, edit, flags, kept):
@@ -538,21 +522,9 @@ def tried_alone(rt, crate, edit, flags, kept):
     return [it for it in whole(lines) if AGAINST.match(it)]
 
 
-def said_of_each(rt, crate, edits, flags, kept):
-    """What checks of several edits at a time say against each that they do not let pass, by function."""
-    left, found, before = edits, {}, None
-    while left and left != before:
-        before, later = left, []
-        while left:
-            together, texts = chosen(crate.folder, left)
-            said, barred = said_together(rt, crate, together, texts, flags, kept) if together else ({}, [])
-            if not said and not barred:
-                break
-            found.update(said)
-            later += barred
-            left = [it for it in left if it not in said and it not in barred]
-        left = later
-    return found
+def strongest_of(said):
+    """Each edit with the strongest line against it and what that line shows."""
+    return [(it, shown(found)) for it, found in said.items()]
 
 
 def must_fail_all(rt, crate, edits, flags, words, start=None):
@@ -567,13 +539,14 @@ def must_fail_all(rt, crate, edits, flags, words, start=None):
         os.mkdir(kept)
         begin(rt, start, kept)
         readable = [it for it in edits if not rt.read_edit(it, crate.folder)[1]]
-        said = said_of_each(rt, crate, readable, flags, kept)
+        said, are_right = first_trial(rt, crate, readable, flags, kept, room)
         for edit in [it for it in readable if it not in said]:
             lines = tried_alone(rt, crate, edit, flags, kept)
             said |= {edit: {None: lines}} if strongest(lines) else {}
-        counted = {it: shown(found)[1] for it, found in said.items() if shown(found)[0] is Kind.CLAUSE}
+        counted = {it: line for it, (kind, line) in strongest_of(said) if kind in COUNTS or it in are_right}
         doubtful = {it: found for it, found in said.items() if it not in counted and None not in found}
-        counted |= second_trial(rt, crate, doubtful, flags, kept)
+        names = {it: found for it, found in doubtful.items() if shown(found)[0] is Kind.NAMES}
+        counted |= second_trial(rt, crate, names, flags, kept, room) if names else {}
         for edit in edits:
             label = f"must-fail {crate.name}/{os.path.basename(edit)}"
             if edit in counted:
