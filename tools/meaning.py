@@ -15,8 +15,9 @@ class Kind(enum.IntEnum):
     CLAUSE = 0
     NAMES = 1
     MISFIT = 2
-    LIMIT = 3
-    OTHER = 4
+    SEARCH = 3
+    LIMIT = 4
+    OTHER = 5
 
 
 # a goal without an answer, by the prover's words for it
@@ -30,7 +31,8 @@ OF_CLAUSE = re.compile(r"returns|invariant_of|.*-(preserved|init)\b|(?!.*\bindex
 OF_NAMES = re.compile(r"has no field|is not in scope|has no `|that can be named from here")
 # what cites a proof that was refused for another line
 FOLLOWS = re.compile(r"(?:\./)?proofs/.*(was not admitted|was not checked)")
-AT_LIMIT = re.compile(r"gave up at one of its limits|stopped at (its own|the step) limit|ran out of|outgrew")
+AT_LIMIT = re.compile(r"stopped at (its own|the step) limit|the goal may hold|ran out of|outgrew")
+OF_SEARCH = re.compile(r"`search` gave up at one of its limits")
 
 
 def kind_of(line):
@@ -44,6 +46,8 @@ def kind_of(line):
         return Kind.OTHER
     if AT_LIMIT.search(line):
         return Kind.LIMIT
+    if OF_SEARCH.search(line):
+        return Kind.SEARCH
     return Kind.MISFIT if answer else Kind.CLAUSE
 
 
@@ -58,11 +62,14 @@ def strongest(lines):
     return min((it for it in shown if it[0] is not None), key=lambda it: it[0], default=None)
 
 
-COUNTS = (Kind.CLAUSE, Kind.MISFIT)
+COUNTS = (Kind.CLAUSE, Kind.MISFIT, Kind.SEARCH)
+# what is said of an edit that counts for less
+SAYS_LESS = " (the search for the clause ended at a limit of its own, so this says less)"
 # what is said of an edit that does not count, by the strongest line
+NOT_RIGHT = "the function is not proved with the right body that it names"
 ADVICE = "turn something else, or name a right body that is proved in a line '-- right: TEXT'"
 WHY_NOT = {
     Kind.NAMES: f"answers name what it took away, and a right body might be refused so, too ({ADVICE})",
-    Kind.LIMIT: f"a tactic stopped at a limit of its own ({ADVICE})",
+    Kind.LIMIT: f"a tactic stopped at a limit of its own, so that the goal may hold ({ADVICE})",
     Kind.OTHER: "no clause, invariant or named condition is left open",
 }

@@ -29,7 +29,7 @@ import shutil
 import tempfile
 import threading
 
-from meaning import COUNTS, WHY_NOT, Kind, strongest, wrong_answers
+from meaning import COUNTS, NOT_RIGHT, SAYS_LESS, WHY_NOT, Kind, strongest, wrong_answers
 
 FUNCTION = re.compile(r"\s*(?:pub(?:\([^)]*\))?\s+)?(?:const\s+)?(?:unsafe\s+)?fn\s+(\w+)")
 TYPE = re.compile(r"^(?:pub(?:\([^)]*\))?\s+)?(?:struct|enum)\s+(\w+)", re.MULTILINE)
@@ -543,17 +543,25 @@ def must_fail_all(rt, crate, edits, flags, words, start=None):
         for edit in [it for it in readable if it not in said]:
             lines = tried_alone(rt, crate, edit, flags, kept)
             said |= {edit: {None: lines}} if strongest(lines) else {}
-        counted = {it: line for it, (kind, line) in strongest_of(said) if kind in COUNTS or it in are_right}
-        doubtful = {it: found for it, found in said.items() if it not in counted and None not in found}
-        names = {it: found for it, found in doubtful.items() if shown(found)[0] is Kind.NAMES}
-        counted |= second_trial(rt, crate, names, flags, kept, room) if names else {}
+        wrongly = {it for it in said if right_bodies(it)} - are_right
+        counted = {
+            it: line
+            for it, (kind, line) in strongest_of(said)
+            if it in are_right or kind in COUNTS and it not in wrongly
+        }
+        names = {it for it, (kind, _) in strongest_of(said) if kind is Kind.NAMES and None not in said[it]}
+        doubtful = {it: said[it] for it in names - wrongly - counted.keys()}
+        counted |= second_trial(rt, crate, doubtful, flags, kept, room) if doubtful else {}
         for edit in edits:
             label = f"must-fail {crate.name}/{os.path.basename(edit)}"
             if edit in counted:
-                given[edit] = refusal, f"{label}: refused, as it must be: {counted[edit][:240]}"
+                is_less = edit not in are_right and shown(said[edit])[0] is Kind.SEARCH
+                less = SAYS_LESS if is_less else ""
+                given[edit] = refusal, f"{label}: refused, as it must be{less}: {counted[edit][:240]}"
             elif edit in said:
                 kind, line = shown(said[edit])
-                given[edit] = miss, f"{label}: NOT COUNTED: {WHY_NOT[kind]}: {line[:240]}"
+                why = NOT_RIGHT if edit in wrongly else WHY_NOT[kind]
+                given[edit] = miss, f"{label}: NOT COUNTED: {why}: {line[:240]}"
             else:
                 given[edit] = rt.must_fail(crate, edit, flags, kept)
                 if not is_settled(given[edit][0]):

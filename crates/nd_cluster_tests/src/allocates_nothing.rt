@@ -34,11 +34,11 @@ fn change_tells<A: Allocator + Copy>(paths: &Paths<A>, change: &mut Delta<A>) ->
     Some(is_told && is_more && change.len() == 1)
 }
 
-fn changes_tell(heap: &Heap, json: Global) -> Option<bool> {
-    let paths = paths_of(json, heap, LINE)?;
-    let mut change = change(heap, paths.graph(), &[("a", 0, -1), ("z", 0, 2)])?;
+fn changes_tell<A: Allocator + Copy>(heap: &Heap, alloc: A, json: Global) -> Option<bool> {
+    let paths = paths_of(json, alloc, LINE)?;
+    let mut change = change(alloc, paths.graph(), &[("a", 0, -1), ("z", 0, 2)])?;
     let is_told = unasked!(heap: change_tells(&paths, &mut change)?);
-    let part = unasked!(heap: change.part(heap, &[]).ok()?);
+    let part = unasked!(heap: change.part(alloc, &[]).ok()?);
     Some(is_told && part.len() == 0)
 }
 
@@ -58,14 +58,14 @@ fn view_tells<A: Allocator + Copy>(paths: &Paths<A>, view: &View<A>) -> Option<b
     )
 }
 
-fn views_tell(heap: &Heap, json: Global) -> Option<bool> {
-    let paths = paths_of(json, heap, LINE)?;
-    let entries = change(heap, paths.graph(), &[("a", 0, 3), ("az", 0, -1)])?;
-    let held = view(heap, &paths, &entries)?;
+fn views_tell<A: Allocator + Copy>(heap: &Heap, alloc: A, json: Global) -> Option<bool> {
+    let paths = paths_of(json, alloc, LINE)?;
+    let entries = change(alloc, paths.graph(), &[("a", 0, 3), ("az", 0, -1)])?;
+    let held = view(alloc, &paths, &entries)?;
     let is_told = unasked!(heap: view_tells(&paths, &held)?);
-    let entry = change(heap, paths.graph(), &[("a", 0, -1)])?;
-    let less = view(heap, &paths, &entry)?;
-    let frontier = unasked!(heap: less.frontier(heap, &paths).ok()?);
+    let entry = change(alloc, paths.graph(), &[("a", 0, -1)])?;
+    let less = view(alloc, &paths, &entry)?;
+    let frontier = unasked!(heap: less.frontier(alloc, &paths).ok()?);
     Some(is_told && frontier.len() == 0)
 }
 
@@ -83,8 +83,8 @@ fn left_of<A: Allocator + Copy>(
     Some(state.entries().count())
 }
 
-fn vertices_tell(heap: &Heap) -> Option<bool> {
-    let mut state = many(heap, 100)?;
+fn vertices_tell<A: Allocator + Copy>(heap: &Heap, alloc: A) -> Option<bool> {
+    let mut state = many(alloc, 100)?;
     let time = time(&[0])?;
     let left = unasked!(heap: left_of(&mut state, &time, 100)?);
     Some(left == 0)
@@ -100,10 +100,10 @@ fn queues_give<A: Allocator + Copy>(mesh: &mut Mesh<A>) -> Option<bool> {
     Some(oldest.len() == 2 && is_there && is_newest && is_empty && len(mesh, 1, 1) == Some(1))
 }
 
-fn queues_tell(heap: &Heap, json: Global) -> Option<bool> {
-    let graph = graph_of(json, heap, LINE)?;
-    let change = change(heap, &graph, &[("a", 0, 1), ("z", 0, 1)])?;
-    let mut mesh = Mesh::new(heap, 2).ok()?;
+fn queues_tell<A: Allocator + Copy>(heap: &Heap, alloc: A, json: Global) -> Option<bool> {
+    let graph = graph_of(json, alloc, LINE)?;
+    let change = change(alloc, &graph, &[("a", 0, 1), ("z", 0, 1)])?;
+    let mut mesh = Mesh::new(alloc, 2).ok()?;
     push(&mut mesh, 1, &change)?.ok()?;
     push(&mut mesh, 1, &change)?.ok()?;
     unasked!(heap: queues_give(&mut mesh))
@@ -165,14 +165,14 @@ fn gives_up<A: Allocator + Copy>(
 }
 
 #[tactic(auto, using(crate::proofs::Parts::is_part))]
-fn processors_tell(heap: &Heap, json: Global) -> Option<bool> {
-    let graph = graph_of(json, heap, DISTINCT)?;
+fn processors_tell<A: Allocator + Copy>(heap: &Heap, alloc: A, json: Global) -> Option<bool> {
+    let graph = graph_of(json, alloc, DISTINCT)?;
     let point = point(&graph, "ad", &[0])?;
     let key = ValueAt { point, value: 7 };
-    let mut processor = holding(heap, &graph, &key)?;
+    let mut processor = holding(alloc, &graph, &key)?;
     unasked!(heap: adds(&mut processor, &key)?);
     let is_told = unasked!(heap: processor_tells(&processor, &key));
-    let Ok(part) = processor.unsent().part(heap, &[key.point.copy()]) else {
+    let Ok(part) = processor.unsent().part(alloc, &[key.point.copy()]) else {
         return None;
     };
     let is_given = unasked!(heap: gives_up(&mut processor, &key, &part)?);
@@ -180,15 +180,15 @@ fn processors_tell(heap: &Heap, json: Global) -> Option<bool> {
 }
 
 /// Returns whether three values to feed, made and copied, take no memory and stand in their order.
-fn values_tell(heap: &Heap) -> Option<bool> {
-    let three = unasked!(heap: values_of(heap, &[7, 5, 7])?.copy(heap).ok()?);
+fn values_tell<A: Allocator + Copy>(heap: &Heap, alloc: A) -> Option<bool> {
+    let three = unasked!(heap: values_of(alloc, &[7, 5, 7])?.copy(alloc).ok()?);
     Some(three.as_slice() == [7, 5, 7].as_slice())
 }
 
 #[test]
 fn three_values_take_none(rt: HostRuntime) {
     let heap = Refusing::new(rt.alloc());
-    assert!(rt; values_tell(&heap) == Some(true));
+    assert!(rt; values_tell(&heap, &heap) == Some(true));
     assert!(rt; heap.live() == 0);
 }
 
@@ -196,11 +196,11 @@ fn three_values_take_none(rt: HostRuntime) {
 fn calls_that_take_none(rt: HostRuntime) {
     let heap = Refusing::new(rt.alloc());
     let json = rt.alloc();
-    assert!(rt; changes_tell(&heap, json) == Some(true));
-    assert!(rt; views_tell(&heap, json) == Some(true));
-    assert!(rt; vertices_tell(&heap) == Some(true));
-    assert!(rt; queues_tell(&heap, json) == Some(true));
-    assert!(rt; processors_tell(&heap, json) == Some(true));
+    assert!(rt; changes_tell(&heap, &heap, json) == Some(true));
+    assert!(rt; views_tell(&heap, &heap, json) == Some(true));
+    assert!(rt; vertices_tell(&heap, &heap) == Some(true));
+    assert!(rt; queues_tell(&heap, &heap, json) == Some(true));
+    assert!(rt; processors_tell(&heap, &heap, json) == Some(true));
     assert!(rt; heap.live() == 0);
 }
 
@@ -231,9 +231,9 @@ fn tells<A: Allocator + Copy>(cluster: &Cluster<A>) -> Option<bool> {
 
 /// Returns whether it does so while every request for memory is refused, and whether the record of a step lists its
 /// entries.
-fn reads(heap: &Heap, json: Global) -> Option<bool> {
-    let cluster = reach(json, heap, LINE, 1, &STEPS)?;
-    let step = step_of(heap, cluster.graph(), &Told::Receive(0, 0))?;
+fn reads<A: Allocator + Copy>(heap: &Heap, json: Global, alloc: A) -> Option<bool> {
+    let cluster = reach(json, alloc, LINE, 1, &STEPS)?;
+    let step = step_of(alloc, cluster.graph(), &Told::Receive(0, 0))?;
     let record = cluster.plan(&step).ok()?;
     let entries = unasked!(heap: record.entries());
     Some(unasked!(heap: tells(&cluster)?) && entries > 0)
@@ -242,6 +242,6 @@ fn reads(heap: &Heap, json: Global) -> Option<bool> {
 #[test]
 fn readers_take_no_memory(rt: HostRuntime) {
     let heap = Refusing::new(rt.alloc());
-    assert!(rt; reads(&heap, rt.alloc()) == Some(true));
+    assert!(rt; reads(&heap, rt.alloc(), &heap) == Some(true));
     assert!(rt; heap.live() == 0);
 }

@@ -199,10 +199,15 @@ fn number_of<A: Allocator + Copy>(alloc: A, cluster: &mut Cluster<A>, told: &Tol
 }
 
 /// Returns the number of the refusal of a feed, and whether the last epoch of the input is closed.
-fn of_feed(heap: &Heap, json: Global, row: &Feed) -> Option<(u64, bool)> {
-    let graph = graph_of(json, heap, LINE)?;
-    let mut cluster = cluster_of(heap, heap, &graph, before_feed(heap, &graph, row)?)?;
-    let number = number_of(heap, &mut cluster, &Told::Feed(0, "a", row.3, row.4))?;
+fn of_feed<A: Allocator + Copy>(
+    heap: &Heap,
+    json: Global,
+    alloc: A,
+    row: &Feed,
+) -> Option<(u64, bool)> {
+    let graph = graph_of(json, alloc, LINE)?;
+    let mut cluster = cluster_of(heap, alloc, &graph, before_feed(alloc, &graph, row)?)?;
+    let number = number_of(alloc, &mut cluster, &Told::Feed(0, "a", row.3, row.4))?;
     let closed =
         "{\"processors\":[{\"items\":[],\"records\":[],\"requests\":[],\"sinks\":[],\"tokens\":[],\
          \"unsent\":[[\"a\",[4294967295],-1]],\"view\":[]}],\"queues\":[[[]]]}";
@@ -210,32 +215,32 @@ fn of_feed(heap: &Heap, json: Global, row: &Feed) -> Option<(u64, bool)> {
 }
 
 /// Returns the number of the refusal of a step at h.
-fn of_step(heap: &Heap, json: Global, row: &AtHold) -> Option<u64> {
-    let graph = graph_of(json, heap, HELD)?;
-    let mut cluster = cluster_of(heap, heap, &graph, before_step(heap, &graph, row)?)?;
-    number_of(heap, &mut cluster, &row.2)
+fn of_step<A: Allocator + Copy>(heap: &Heap, json: Global, alloc: A, row: &AtHold) -> Option<u64> {
+    let graph = graph_of(json, alloc, HELD)?;
+    let mut cluster = cluster_of(heap, alloc, &graph, before_step(alloc, &graph, row)?)?;
+    number_of(alloc, &mut cluster, &row.2)
 }
 
 /// Returns the number of the refusal of a record that goes around once more at the last counter.
-fn of_round(heap: &Heap, json: Global) -> Option<u64> {
-    let graph = graph_of(json, heap, LOOP)?;
-    let mut processor = Processor::start(heap, &graph).ok()?;
+fn of_round<A: Allocator + Copy>(heap: &Heap, json: Global, alloc: A) -> Option<u64> {
+    let graph = graph_of(json, alloc, LOOP)?;
+    let mut processor = Processor::start(alloc, &graph).ok()?;
     add_records(&mut processor, &graph, "sf", &[0, u32::MAX], 1)?;
-    let mut cluster = cluster_of(heap, heap, &graph, processor)?;
-    number_of(heap, &mut cluster, &Told::Take(0, "sf", &[0, u32::MAX], 5))
+    let mut cluster = cluster_of(heap, alloc, &graph, processor)?;
+    number_of(alloc, &mut cluster, &Told::Take(0, "sf", &[0, u32::MAX], 5))
 }
 
 /// Checks the worked example *number-limits*, and the limits of feeds to an epoch, releases and notices.
 #[test]
 fn number_limits(rt: HostRuntime) {
     let heap = Refusing::new(rt.alloc());
-    assert!(rt; of_round(&heap, rt.alloc()) == Some(11));
+    assert!(rt; of_round(&heap, rt.alloc(), &heap) == Some(11));
     for (i, row) in FEEDS.iter().enumerate() {
-        let found = of_feed(&heap, rt.alloc(), row);
+        let found = of_feed(&heap, rt.alloc(), &heap, row);
         assert!(rt; found == Some((row.5, i == 0)), "in row {i}");
     }
     for (i, row) in AT_HOLD.iter().enumerate() {
-        let number = of_step(&heap, rt.alloc(), row);
+        let number = of_step(&heap, rt.alloc(), &heap, row);
         assert!(rt; number == Some(row.3), "in row {i} of steps at h");
     }
     assert!(rt; heap.live() == 0);

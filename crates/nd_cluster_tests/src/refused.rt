@@ -86,52 +86,70 @@ static CALLS: [Call; 37] = calls! {
 static FREE: [Call; 4] = calls! { AddAtOld CommitNoItems RevertToNoItems ReturnToken };
 
 /// Returns whether a call on graphs met the refused request.
-fn graphs(heap: &Heap, json: Global, call: &Call, n: u64) -> Option<bool> {
+fn graphs<A: Allocator + Copy>(
+    heap: &Heap,
+    alloc: A,
+    json: Global,
+    call: &Call,
+    n: u64,
+) -> Option<bool> {
     let value = Value::from_str(json, LOOP).ok()?;
-    let draft = GraphDraft::from_value(heap, &value).ok()?;
+    let draft = GraphDraft::from_value(alloc, &value).ok()?;
     match call {
         Call::ReadDraft => {
-            met!(heap, n: GraphDraft::from_value(heap, &value); GraphFault::Memory, true)
+            met!(heap, n: GraphDraft::from_value(alloc, &value); GraphFault::Memory, true)
         }
         Call::ReadDraftV4 => {
-            met!(heap, n: GraphDraft::from_value_v4(heap, &value); GraphFault::Memory, true)
+            met!(heap, n: GraphDraft::from_value_v4(alloc, &value); GraphFault::Memory, true)
         }
-        Call::CheckDraft => met!(heap, n: draft.check(heap); GraphFault::Memory, true),
-        _ => met!(heap, n: draft.check_v1(heap); GraphFault::Memory, true),
+        Call::CheckDraft => met!(heap, n: draft.check(alloc); GraphFault::Memory, true),
+        _ => met!(heap, n: draft.check_v1(alloc); GraphFault::Memory, true),
     }
 }
 
 /// Does the same for a call on paths.
-fn paths(heap: &Heap, json: Global, call: &Call, n: u64) -> Option<bool> {
-    let paths = paths_of(json, heap, LOOP)?;
+fn paths<A: Allocator + Copy>(
+    heap: &Heap,
+    alloc: A,
+    json: Global,
+    call: &Call,
+    n: u64,
+) -> Option<bool> {
+    let paths = paths_of(json, alloc, LOOP)?;
     match call {
-        Call::CopyGraph => met!(heap, n: paths.graph().copy(heap); AllocError, true),
+        Call::CopyGraph => met!(heap, n: paths.graph().copy(alloc); AllocError, true),
         Call::MakePaths => {
-            met!(heap, n: Paths::of(heap, paths.graph()); PathFault::Memory, true)
+            met!(heap, n: Paths::of(alloc, paths.graph()); PathFault::Memory, true)
         }
-        _ => met!(heap, n: paths.copy(heap); AllocError, true),
+        _ => met!(heap, n: paths.copy(alloc); AllocError, true),
     }
 }
 
 /// Does the same for a call on changes.
-fn changes<'a>(heap: &'a Heap, graph: &Graph<&'a Heap>, call: &Call, n: u64) -> Option<bool> {
+fn changes<A: Allocator + Copy>(
+    heap: &Heap,
+    alloc: A,
+    graph: &Graph<A>,
+    call: &Call,
+    n: u64,
+) -> Option<bool> {
     let (a, az) = (point(graph, "a", &[0])?, point(graph, "az", &[0])?);
-    let whole = change(heap, graph, &[("a", 0, 1), ("z", 0, 1)])?;
+    let whole = change(alloc, graph, &[("a", 0, 1), ("z", 0, 1)])?;
     // a copy has room for no more entries
-    let mut one = whole.copy(heap).ok()?;
-    let other = change(heap, graph, &[("az", 0, 1)])?;
+    let mut one = whole.copy(alloc).ok()?;
+    let other = change(alloc, graph, &[("az", 0, 1)])?;
     match call {
         Call::AddAtNew => { met!(heap, n: one.add(&az, 1); DeltaFault::Memory, one.len() == 2) }
         Call::AddAtOld => met!(heap, n: one.add(&a, 1); DeltaFault::Memory, one.len() == 2),
-        Call::AddChanges => met!(heap, n: one.plus(heap, &other); DeltaFault::Memory, true),
-        Call::SubtractChanges => met!(heap, n: one.minus(heap, &other); DeltaFault::Memory, true),
-        Call::TakePartOfChange => met!(heap, n: one.part(heap, &[a]); AllocError, true),
+        Call::AddChanges => met!(heap, n: one.plus(alloc, &other); DeltaFault::Memory, true),
+        Call::SubtractChanges => met!(heap, n: one.minus(alloc, &other); DeltaFault::Memory, true),
+        Call::TakePartOfChange => met!(heap, n: one.part(alloc, &[a]); AllocError, true),
         Call::CombineLarge => {
-            let mut large = LargeDelta::new(heap);
+            let mut large = LargeDelta::new(alloc);
             large.add(&a, 1).ok()?;
-            met!(heap, n: large.combine(heap, &other, false); DeltaFault::Memory, true)
+            met!(heap, n: large.combine(alloc, &other, false); DeltaFault::Memory, true)
         }
-        _ => met!(heap, n: one.copy(heap); AllocError, true),
+        _ => met!(heap, n: one.copy(alloc); AllocError, true),
     }
 }
 
@@ -145,8 +163,14 @@ fn large_change<A: Allocator + Copy>(alloc: A, graph: &Graph<A>) -> Option<Delta
 }
 
 /// Does the same for a call on views.
-fn views(heap: &Heap, json: Global, call: &Call, n: u64) -> Option<bool> {
-    let paths = paths_of(json, heap, LINE)?;
+fn views<A: Allocator + Copy>(
+    heap: &Heap,
+    alloc: A,
+    json: Global,
+    call: &Call,
+    n: u64,
+) -> Option<bool> {
+    let paths = paths_of(json, alloc, LINE)?;
     let entries = [
         ("a", 0, -2),
         ("z", 0, 1),
@@ -156,30 +180,36 @@ fn views(heap: &Heap, json: Global, call: &Call, n: u64) -> Option<bool> {
         ("az", 1, 1),
         ("az", 2, 1),
     ];
-    let news = change(heap, paths.graph(), &entries)?;
+    let news = change(alloc, paths.graph(), &entries)?;
     let a = point(paths.graph(), "a", &[0])?;
-    let olds = change(heap, paths.graph(), &[("a", 0, 1)])?;
-    let mut view = view(heap, &paths, &olds)?;
+    let olds = change(alloc, paths.graph(), &[("a", 0, 1)])?;
+    let mut view = view(alloc, &paths, &olds)?;
     match call {
         Call::ApplyToView => met!(heap, n: view.apply(&paths, &news); DeltaFault::Memory,
             view.counts().len() == 1 && view.kept(&a) == Some(0)),
         Call::ApplyManyToView => {
-            let large = large_change(heap, paths.graph())?;
+            let large = large_change(alloc, paths.graph())?;
             met!(heap, n: view.apply(&paths, &large); DeltaFault::Memory,
                 view.counts().len() == 1 && view.kept(&a) == Some(0))
         }
         Call::UnapplyFromView => met!(heap, n: view.unapply(&paths, &news); DeltaFault::Memory,
             view.counts().len() == 1 && view.kept(&a) == Some(0)),
-        Call::ListFrontier => met!(heap, n: view.frontier(heap, &paths); AllocError, true),
-        _ => met!(heap, n: view.copy(heap); AllocError, true),
+        Call::ListFrontier => met!(heap, n: view.frontier(alloc, &paths); AllocError, true),
+        _ => met!(heap, n: view.copy(alloc); AllocError, true),
     }
 }
 
 /// Does the same for a call on queues.
-fn queues<'a>(heap: &'a Heap, change: Delta<&'a Heap>, call: &Call, n: u64) -> Option<bool> {
-    let mut mesh = Mesh::new(heap, 2).ok()?;
+fn queues<A: Allocator + Copy>(
+    heap: &Heap,
+    alloc: A,
+    change: Delta<A>,
+    call: &Call,
+    n: u64,
+) -> Option<bool> {
+    let mut mesh = Mesh::new(alloc, 2).ok()?;
     match call {
-        Call::MakeMesh => met!(heap, n: Mesh::new(heap, 2); AllocError, true),
+        Call::MakeMesh => met!(heap, n: Mesh::new(alloc, 2); AllocError, true),
         Call::PushToAll => met!(heap, n: push(&mut mesh, 0, &change)?; PushFault::Memory,
             (len(&mesh, 0, 0), len(&mesh, 0, 1)) == (Some(0), Some(0)) && mesh.is_vacant()),
         Call::PutBack => {
@@ -188,7 +218,7 @@ fn queues<'a>(heap: &'a Heap, change: Delta<&'a Heap>, call: &Call, n: u64) -> O
         }
         _ => {
             push(&mut mesh, 1, &change)?.ok()?;
-            met!(heap, n: mesh.copy(heap); AllocError, !mesh.is_vacant())
+            met!(heap, n: mesh.copy(alloc); AllocError, !mesh.is_vacant())
         }
     }
 }
@@ -204,10 +234,11 @@ pub fn many<A: Allocator + Copy>(alloc: A, count: i64) -> Option<VertexState<A>>
 }
 
 /// Does the same for the edits of an effect, applied or undone. If that takes memory, there is no item before it.
-fn edits<'a>(
-    heap: &'a Heap,
-    state: &mut VertexState<&'a Heap>,
-    effect: &Effect<&'a Heap>,
+fn edits<A: Allocator + Copy>(
+    heap: &Heap,
+    alloc: A,
+    state: &mut VertexState<A>,
+    effect: &Effect<A>,
     call: &Call,
     n: u64,
 ) -> Option<bool>
@@ -219,50 +250,56 @@ fn edits<'a>(
         }
         _ => {
             state.commit(effect).ok()?;
-            let mut made = state.copy(heap).ok()?;
+            let mut made = state.copy(alloc).ok()?;
             met!(heap, n: made.revert(effect); AllocError, made.entries().next().is_none())
         }
     }
 }
 
 /// Does the same for a call on a vertex without items.
-fn vertices(heap: &Heap, call: &Call, n: u64) -> Option<bool> {
+fn vertices<A: Allocator + Copy>(heap: &Heap, alloc: A, call: &Call, n: u64) -> Option<bool> {
     let time = time(&[0])?;
-    let mut state = VertexState::new(heap);
+    let mut state = VertexState::new(alloc);
     if let Call::ActOnRecord = call {
-        return met!(heap, n: state.on_record(heap, Op::Distinct, &time, 9);
+        return met!(heap, n: state.on_record(alloc, Op::Distinct, &time, 9);
             VertexFault::Memory, true);
     }
     if let Call::SetItem = call {
         return met!(heap, n: set(&mut state, &time, 9, Some(1))?; AllocError,
             state.entries().next().is_none());
     }
-    let effect = state.on_record(heap, Op::Distinct, &time, 9).ok()?;
-    edits(heap, &mut state, &effect, call, n)
+    let effect = state.on_record(alloc, Op::Distinct, &time, 9).ok()?;
+    edits(heap, alloc, &mut state, &effect, call, n)
 }
 
 /// Does the same for a call on a vertex with items.
-fn full_vertices(heap: &Heap, call: &Call, n: u64) -> Option<bool> {
+fn full_vertices<A: Allocator + Copy>(heap: &Heap, alloc: A, call: &Call, n: u64) -> Option<bool> {
     let time = time(&[0])?;
-    let mut state = many(heap, 12)?;
+    let mut state = many(alloc, 12)?;
     if let Call::ActOnNotice = call {
-        return met!(heap, n: state.on_notice(heap, Op::Distinct, &time);
+        return met!(heap, n: state.on_notice(alloc, Op::Distinct, &time);
             VertexFault::Memory, true);
     }
     if let Call::CopyVertex = call {
-        return met!(heap, n: state.copy(heap); AllocError, true);
+        return met!(heap, n: state.copy(alloc); AllocError, true);
     }
-    let effect = state.on_notice(heap, Op::Distinct, &time).ok()?;
-    edits(heap, &mut state, &effect, call, n)
+    let effect = state.on_notice(alloc, Op::Distinct, &time).ok()?;
+    edits(heap, alloc, &mut state, &effect, call, n)
 }
 
 /// Does the same for a call on a complete processor.
-fn processors<'a>(heap: &'a Heap, graph: &Graph<&'a Heap>, call: &Call, n: u64) -> Option<bool> {
-    let mut processor = Processor::start(heap, graph).ok()?;
+fn processors<A: Allocator + Copy>(
+    heap: &Heap,
+    alloc: A,
+    graph: &Graph<A>,
+    call: &Call,
+    n: u64,
+) -> Option<bool> {
+    let mut processor = Processor::start(alloc, graph).ok()?;
     match call {
-        Call::StartProcessor => met!(heap, n: Processor::start(heap, graph); AllocError, true),
-        Call::CopyProcessor => met!(heap, n: processor.copy(heap); AllocError, true),
-        Call::ListTokens => met!(heap, n: processor.token_points(heap); NoMemory, true),
+        Call::StartProcessor => met!(heap, n: Processor::start(alloc, graph); AllocError, true),
+        Call::CopyProcessor => met!(heap, n: processor.copy(alloc); AllocError, true),
+        Call::ListTokens => met!(heap, n: processor.token_points(alloc); NoMemory, true),
         Call::ReturnToken => {
             move_token(&mut processor, None).ok()?;
             met!(heap, n: move_token(&mut processor, Some(0)); AllocError, true)
@@ -273,8 +310,14 @@ fn processors<'a>(heap: &'a Heap, graph: &Graph<&'a Heap>, call: &Call, n: u64) 
 }
 
 /// Does the same for a call that puts a record, a request, a sink's count or an unsent entry into a processor.
-fn additions<'a>(heap: &'a Heap, graph: &Graph<&'a Heap>, call: &Call, n: u64) -> Option<bool> {
-    let mut processor = Processor::start(heap, graph).ok()?;
+fn additions<A: Allocator + Copy>(
+    heap: &Heap,
+    alloc: A,
+    graph: &Graph<A>,
+    call: &Call,
+    n: u64,
+) -> Option<bool> {
+    let mut processor = Processor::start(alloc, graph).ok()?;
     let point = point(graph, "ad", &[0])?;
     match call {
         Call::AddRecords => {
@@ -292,9 +335,14 @@ fn additions<'a>(heap: &'a Heap, graph: &Graph<&'a Heap>, call: &Call, n: u64) -
 }
 
 /// Does the same for all that is unsent, removed and put back.
-fn parts<'a>(heap: &'a Heap, processor: &mut Processor<&'a Heap>, n: u64) -> Option<bool> {
-    let part = take_all(processor, heap)?;
-    let Ok(mut left) = processor.copy(heap) else {
+fn parts<A: Allocator + Copy>(
+    heap: &Heap,
+    alloc: A,
+    processor: &mut Processor<A>,
+    n: u64,
+) -> Option<bool> {
+    let part = take_all(processor, alloc)?;
+    let Ok(mut left) = processor.copy(alloc) else {
         return None;
     };
     met!(heap, n: left.put_part(&part); AllocError, left.unsent().len() == 0)
@@ -310,61 +358,67 @@ fn unsent<A: Allocator + Copy>(alloc: A, graph: &Graph<A>) -> Option<Processor<A
 }
 
 /// Returns whether a call met the refused request. Returns `None` if its answer, or what it left, is wrong.
-fn meets(heap: &Heap, json: Global, call: &Call, n: u64) -> Option<bool> {
+fn meets<A: Allocator + Copy>(
+    heap: &Heap,
+    alloc: A,
+    json: Global,
+    call: &Call,
+    n: u64,
+) -> Option<bool> {
     match call {
         Call::ReadDraft | Call::ReadDraftV4 | Call::CheckDraft | Call::CheckDraftV1 => {
-            graphs(heap, json, call, n)
+            graphs(heap, alloc, json, call, n)
         }
-        Call::CopyGraph | Call::MakePaths | Call::CopyPaths => paths(heap, json, call, n),
+        Call::CopyGraph | Call::MakePaths | Call::CopyPaths => paths(heap, alloc, json, call, n),
         Call::AddAtNew
         | Call::AddAtOld
         | Call::AddChanges
         | Call::SubtractChanges
         | Call::TakePartOfChange
         | Call::CopyChange
-        | Call::CombineLarge => changes(heap, &graph_of(json, heap, LINE)?, call, n),
+        | Call::CombineLarge => changes(heap, alloc, &graph_of(json, alloc, LINE)?, call, n),
         Call::ApplyToView
         | Call::ApplyManyToView
         | Call::UnapplyFromView
         | Call::ListFrontier
-        | Call::CopyView => views(heap, json, call, n),
+        | Call::CopyView => views(heap, alloc, json, call, n),
         Call::MakeMesh | Call::PushToAll | Call::PutBack | Call::CopyMesh => {
-            let graph = graph_of(json, heap, LINE)?;
-            let change = change(heap, &graph, &[("a", 0, 1), ("z", 0, 1)])?;
-            queues(heap, change, call, n)
+            let graph = graph_of(json, alloc, LINE)?;
+            let change = change(alloc, &graph, &[("a", 0, 1), ("z", 0, 1)])?;
+            queues(heap, alloc, change, call, n)
         }
         Call::ActOnRecord | Call::SetItem | Call::CommitNewItems | Call::RevertToNoItems => {
-            vertices(heap, call, n)
+            vertices(heap, alloc, call, n)
         }
         Call::ActOnNotice | Call::CopyVertex | Call::CommitNoItems | Call::RevertToItems => {
-            full_vertices(heap, call, n)
+            full_vertices(heap, alloc, call, n)
         }
         Call::AddRecords | Call::AddRequest | Call::AddToSink | Call::AddUnsent => {
-            additions(heap, &graph_of(json, heap, DISTINCT)?, call, n)
+            additions(heap, alloc, &graph_of(json, alloc, DISTINCT)?, call, n)
         }
         Call::PutPart => {
-            let graph = graph_of(json, heap, DISTINCT)?;
-            parts(heap, &mut unsent(heap, &graph)?, n)
+            let graph = graph_of(json, alloc, DISTINCT)?;
+            parts(heap, alloc, &mut unsent(alloc, &graph)?, n)
         }
-        _ => processors(heap, &graph_of(json, heap, DISTINCT)?, call, n),
+        _ => processors(heap, alloc, &graph_of(json, alloc, DISTINCT)?, call, n),
     }
 }
 
 /// Returns how many requests of a call were refused before it met none.
-fn refused(heap: &Heap, json: Global, call: &Call) -> Option<u64> {
-    in_turn!(n: meets(heap, json, call, n))
+fn refused<A: Allocator + Copy>(heap: &Heap, alloc: A, json: Global, call: &Call) -> Option<u64> {
+    in_turn!(n: meets(heap, alloc, json, call, n))
 }
 
 #[test]
 fn each_request_refused(rt: HostRuntime) {
     let heap = Refusing::new(rt.alloc());
     for (i, call) in CALLS.iter().enumerate() {
-        let count = refused(&heap, rt.alloc(), call);
+        let count = refused(&heap, &heap, rt.alloc(), call);
         assert!(rt; matches!(count, Some(n) if n > 0), "in row {i}");
         assert!(rt; heap.live() == 0, "in row {i}");
     }
     for (i, call) in FREE.iter().enumerate() {
-        let count = refused(&heap, rt.alloc(), call);
+        let count = refused(&heap, &heap, rt.alloc(), call);
         assert!(rt; count == Some(0), "in row {i} of those that ask for none");
     }
 }

@@ -339,15 +339,21 @@ fn told<A: Allocator + Copy>(json: Global, alloc: A, list: &[Asked]) -> Option<S
 
 /// Issues a command to a `State` with one request refused, and returns whether the command met it. Then nothing is logged, or the
 /// answer is.
-fn applied(heap: &Heap, json: Global, row: &Row, n: u64) -> Option<bool> {
+fn applied<A: Allocator + Copy>(
+    heap: &Heap,
+    json: Global,
+    alloc: A,
+    row: &Row,
+    n: u64,
+) -> Option<bool> {
     let (list, asked, wanted) = row;
-    let command = command_of(heap, &graph_of(json, heap, LINE)?, asked)?;
-    let mut state = told(json, heap, list)?;
-    let before = state.snapshot(heap).ok()?;
+    let command = command_of(alloc, &graph_of(json, alloc, LINE)?, asked)?;
+    let mut state = told(json, alloc, list)?;
+    let before = state.snapshot(alloc).ok()?;
     heap.refuse(n);
-    let answer = state.apply(heap, 0, command);
+    let answer = state.apply(alloc, 0, command);
     let met = heap.relent(n);
-    let after = state.snapshot(heap).ok()?;
+    let after = state.snapshot(alloc).ok()?;
     let is_logged = state.log().len() as u64 == after.index();
     if is_logged && is_right(json, answer, met, wanted, (&before, &after))? {
         Some(met)
@@ -357,15 +363,20 @@ fn applied(heap: &Heap, json: Global, row: &Row, n: u64) -> Option<bool> {
 }
 
 /// Issues a command to a `State` with each request refused in turn, and returns how many were refused.
-fn applied_in_turn(heap: &Heap, json: Global, row: &Row) -> Option<u64> {
-    in_turn!(n: applied(heap, json, row, n))
+fn applied_in_turn<A: Allocator + Copy>(
+    heap: &Heap,
+    json: Global,
+    alloc: A,
+    row: &Row,
+) -> Option<u64> {
+    in_turn!(n: applied(heap, json, alloc, row, n))
 }
 
 #[test]
 fn apply_out_of_memory(rt: HostRuntime) {
     let heap = Refusing::new(rt.alloc());
     for (number, row) in ROWS.iter().enumerate() {
-        let count = applied_in_turn(&heap, rt.alloc(), row);
+        let count = applied_in_turn(&heap, rt.alloc(), &heap, row);
         assert!(rt; count.is_some(), "in row {number}");
         assert!(rt; number > 0 || count != Some(0));
     }
@@ -373,23 +384,34 @@ fn apply_out_of_memory(rt: HostRuntime) {
 }
 
 /// Returns whether a copy of a receipt met the refused request.
-fn meets_copy(heap: &Heap, json: Global, asked: &Asked, n: u64) -> Option<bool> {
-    let mut state = opened(json, heap, LINE, 1)?;
-    let command = command_of(heap, &graph_of(json, heap, LINE)?, asked)?;
-    let receipt = state.apply(heap, 0, command).ok()?;
-    met!(heap, n: receipt.copy(heap); AllocError, true)
+fn meets_copy<A: Allocator + Copy>(
+    heap: &Heap,
+    json: Global,
+    alloc: A,
+    asked: &Asked,
+    n: u64,
+) -> Option<bool> {
+    let mut state = opened(json, alloc, LINE, 1)?;
+    let command = command_of(alloc, &graph_of(json, alloc, LINE)?, asked)?;
+    let receipt = state.apply(alloc, 0, command).ok()?;
+    met!(heap, n: receipt.copy(alloc); AllocError, true)
 }
 
 /// Returns how many requests were refused before it met none.
-fn receipt_copies(heap: &Heap, json: Global, asked: &Asked) -> Option<u64> {
-    in_turn!(n: meets_copy(heap, json, asked, n))
+fn receipt_copies<A: Allocator + Copy>(
+    heap: &Heap,
+    json: Global,
+    alloc: A,
+    asked: &Asked,
+) -> Option<u64> {
+    in_turn!(n: meets_copy(heap, json, alloc, asked, n))
 }
 
 #[test]
 fn copy_of_a_receipt_out_of_memory(rt: HostRuntime) {
     let heap = Refusing::new(rt.alloc());
     for asked in [FEED_OF_FOUR, Asked::RunOnly(10, &[0])] {
-        let count = receipt_copies(&heap, rt.alloc(), &asked);
+        let count = receipt_copies(&heap, rt.alloc(), &heap, &asked);
         assert!(rt; matches!(count, Some(n) if n > 0));
     }
     assert!(rt; heap.live() == 0);

@@ -5,9 +5,9 @@ use nd_breaks::{Atom, Condition};
 use nd_cluster::Next;
 use nd_examples::{LINE, Told, point, start, step_of};
 use nd_history::{Gate, SearchFault, Snapshot, search};
-use nd_testing::{MANY, Refusing, Sign};
+use nd_testing::{MANY, Refusing, Sign, in_turn, met};
 use nd_timeline::Timeline;
-use std::alloc::{Allocator, Global};
+use std::alloc::{AllocError, Allocator, Global};
 use std::rt::Clock;
 use std::sync::atomic::{AtomicBool, AtomicU64, Ordering};
 use std::thread::Threads;
@@ -339,5 +339,43 @@ fn stops_at_the_gate<A: Allocator + Copy + Send + Sync, R: Threads + Sync>(
 fn the_gate_is_called_before_the_walk(rt: HostRuntime) {
     let heap = Refusing::new(rt.alloc());
     assert!(rt; stops_at_the_gate(&rt, &heap, rt.alloc(), &heap) == Some(true));
+    assert!(rt; heap.live() == 0);
+}
+
+/// Returns whether making a snapshot, or a copy of one, met the refused request.
+fn meets<A: Allocator + Copy>(
+    heap: &Heap,
+    json: Global,
+    alloc: A,
+    is_copy: bool,
+    n: u64,
+) -> Option<bool> {
+    let mut timeline = Timeline::new(alloc, start(json, alloc, LINE, 1)?).ok()?;
+    forward(alloc, &mut timeline, &NOTHING, 2)?;
+    if is_copy {
+        let snapshot = Snapshot::of(alloc, &timeline, 7).ok()?;
+        met!(heap, n: snapshot.copy(alloc); AllocError, true)
+    } else {
+        met!(heap, n: Snapshot::of(alloc, &timeline, 7); AllocError, true)
+    }
+}
+
+/// Returns how many requests were refused before the call met none.
+fn snapshots<A: Allocator + Copy>(
+    heap: &Heap,
+    json: Global,
+    alloc: A,
+    is_copy: bool,
+) -> Option<u64> {
+    in_turn!(n: meets(heap, json, alloc, is_copy, n))
+}
+
+#[test]
+fn snapshots_out_of_memory(rt: HostRuntime) {
+    let heap = Refusing::new(rt.alloc());
+    for is_copy in [false, true] {
+        let count = snapshots(&heap, rt.alloc(), &heap, is_copy);
+        assert!(rt; matches!(count, Some(n) if n > 0));
+    }
     assert!(rt; heap.live() == 0);
 }

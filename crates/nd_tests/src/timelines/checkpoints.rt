@@ -33,10 +33,15 @@ fn is_led_to<A: Allocator + Copy>(json: Global, alloc: A, timeline: &Timeline<A>
 /// Returns whether a run over a position where a checkpoint is due met the refused request, and whether the run continued.
 ///
 /// Returns `None` if the timeline is not at the reported position, or if the run stopped although it met no refusal.
-fn meets_run(heap: &Heap, json: Global, n: u64) -> Option<(bool, bool)> {
-    let mut timeline = looped(json, heap)?;
-    run_all(&mut timeline, 1020, &Breaks::new(heap).ok()?).ok()?;
-    let breaks = Breaks::new(heap).ok()?;
+fn meets_run<A: Allocator + Copy>(
+    heap: &Heap,
+    json: Global,
+    alloc: A,
+    n: u64,
+) -> Option<(bool, bool)> {
+    let mut timeline = looped(json, alloc)?;
+    run_all(&mut timeline, 1020, &Breaks::new(alloc).ok()?).ok()?;
+    let breaks = Breaks::new(alloc).ok()?;
     heap.refuse(n);
     let ran = run_all(&mut timeline, 10, &breaks);
     let met = heap.relent(n);
@@ -45,7 +50,7 @@ fn meets_run(heap: &Heap, json: Global, n: u64) -> Option<(bool, bool)> {
         Ok(_) => timeline.at() == 1032,
         Err(fault) => met && fault == Fault::Memory { at: timeline.at() },
     };
-    if is_said && is_led_to(json, heap, &timeline)? {
+    if is_said && is_led_to(json, alloc, &timeline)? {
         Some((met, goes_on))
     } else {
         None
@@ -53,10 +58,10 @@ fn meets_run(heap: &Heap, json: Global, n: u64) -> Option<(bool, bool)> {
 }
 
 /// Returns how many refusals were unnoticed before the first of such runs that met none.
-fn unnoticed_in_runs(heap: &Heap, json: Global) -> Option<u64> {
+fn unnoticed_in_runs<A: Allocator + Copy>(heap: &Heap, json: Global, alloc: A) -> Option<u64> {
     let mut count: u64 = 0;
     for n in 0..MANY {
-        let (met, goes_on) = meets_run(heap, json, n)?;
+        let (met, goes_on) = meets_run(heap, json, alloc, n)?;
         if !met {
             return Some(count);
         }
@@ -68,11 +73,11 @@ fn unnoticed_in_runs(heap: &Heap, json: Global) -> Option<u64> {
 }
 
 /// Does the same for jumps over 1,500 steps of one timeline, which begin at a checkpoint.
-fn unnoticed_in_jumps(heap: &Heap, json: Global) -> Option<u64> {
-    let mut timeline = looped(json, heap)?;
-    run_all(&mut timeline, 2598, &Breaks::new(heap).ok()?).ok()?;
+fn unnoticed_in_jumps<A: Allocator + Copy>(heap: &Heap, json: Global, alloc: A) -> Option<u64> {
+    let mut timeline = looped(json, alloc)?;
+    run_all(&mut timeline, 2598, &Breaks::new(alloc).ok()?).ok()?;
     timeline.jump(1100).ok()?;
-    if !is_led_to(json, heap, &timeline)? {
+    if !is_led_to(json, alloc, &timeline)? {
         return None;
     }
     let wanted = state_text(json, timeline.cluster())?;
@@ -105,7 +110,7 @@ fn unnoticed_in_jumps(heap: &Heap, json: Global) -> Option<u64> {
 #[test]
 fn checkpoints_out_of_memory(rt: HostRuntime) {
     let heap = Refusing::new(rt.alloc());
-    let count = unnoticed_in_runs(&heap, rt.alloc());
+    let count = unnoticed_in_runs(&heap, rt.alloc(), &heap);
     assert!(rt; matches!(count, Some(n) if n > 3));
     assert!(rt; heap.live() == 0);
 }
@@ -113,7 +118,7 @@ fn checkpoints_out_of_memory(rt: HostRuntime) {
 #[test]
 fn far_jumps_out_of_memory(rt: HostRuntime) {
     let heap = Refusing::new(rt.alloc());
-    let count = unnoticed_in_jumps(&heap, rt.alloc());
+    let count = unnoticed_in_jumps(&heap, rt.alloc(), &heap);
     assert!(rt; matches!(count, Some(n) if n > 3));
     assert!(rt; heap.live() == 0);
 }
@@ -135,15 +140,20 @@ fn fill<A: Allocator + Copy>(alloc: A, timeline: &mut Timeline<A>, count: i64) -
 
 /// Returns how many blocks of memory the checkpoints of a run of 20,000 steps take, and how many the state saved at its end
 /// takes, with this many records in the loop.
-fn blocks(heap: &Heap, json: Global, records: i64) -> Option<(u64, u64)> {
-    let mut timeline = Timeline::new(heap, start(json, heap, ENDLESS, 1)?).ok()?;
-    fill(heap, &mut timeline, records)?;
-    run_all(&mut timeline, 20_000, &Breaks::new(heap).ok()?).ok()?;
+fn blocks<A: Allocator + Copy>(
+    heap: &Heap,
+    json: Global,
+    alloc: A,
+    records: i64,
+) -> Option<(u64, u64)> {
+    let mut timeline = Timeline::new(alloc, start(json, alloc, ENDLESS, 1)?).ok()?;
+    fill(alloc, &mut timeline, records)?;
+    run_all(&mut timeline, 20_000, &Breaks::new(alloc).ok()?).ok()?;
     let with = heap.live();
-    let saved = timeline.cluster().saved(heap).ok()?;
+    let saved = timeline.cluster().saved(alloc).ok()?;
     let one = heap.live().saturating_sub(with);
     drop(saved);
-    let copy = timeline.copy(heap).ok()?;
+    let copy = timeline.copy(alloc).ok()?;
     drop(timeline);
     let without = heap.live();
     drop(copy);
@@ -151,8 +161,14 @@ fn blocks(heap: &Heap, json: Global, records: i64) -> Option<(u64, u64)> {
 }
 
 /// Returns whether there are this many checkpoints, judged by their blocks, or one more or less.
-fn has_about(heap: &Heap, json: Global, records: i64, count: u64) -> Option<bool> {
-    let (all, one) = blocks(heap, json, records)?;
+fn has_about<A: Allocator + Copy>(
+    heap: &Heap,
+    json: Global,
+    alloc: A,
+    records: i64,
+    count: u64,
+) -> Option<bool> {
+    let (all, one) = blocks(heap, json, alloc, records)?;
     let least = one.saturating_mul(count.saturating_sub(1));
     let most = one.saturating_mul(count.saturating_add(1));
     Some(one > 0 && least <= all && all <= most)
@@ -162,7 +178,7 @@ fn has_about(heap: &Heap, json: Global, records: i64, count: u64) -> Option<bool
 fn checkpoints_are_few(rt: HostRuntime) {
     let heap = Refusing::new(rt.alloc());
     for (records, count) in [(2, 19), (300, 9), (1000, 4)] {
-        let has = has_about(&heap, rt.alloc(), records, count);
+        let has = has_about(&heap, rt.alloc(), &heap, records, count);
         assert!(rt; has == Some(true), "with {records} records");
     }
     assert!(rt; heap.live() == 0);

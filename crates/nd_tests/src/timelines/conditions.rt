@@ -71,16 +71,16 @@ fn tells<A: Allocator + Copy>(cluster: &Cluster<A>, breaks: &mut Breaks<A>) -> O
 }
 
 /// Returns whether this works while every request for memory is refused.
-fn tells_unasked(heap: &Heap, json: Global) -> Option<bool> {
-    let cluster = start(json, heap, LINE, 1)?;
-    let mut breaks = Breaks::new(heap).ok()?;
+fn tells_unasked<A: Allocator + Copy>(heap: &Heap, json: Global, alloc: A) -> Option<bool> {
+    let cluster = start(json, alloc, LINE, 1)?;
+    let mut breaks = Breaks::new(alloc).ok()?;
     Some(unasked!(heap: tells(&cluster, &mut breaks)?))
 }
 
 #[test]
 fn conditions_take_no_memory(rt: HostRuntime) {
     let heap = Refusing::new(rt.alloc());
-    assert!(rt; tells_unasked(&heap, rt.alloc()) == Some(true));
+    assert!(rt; tells_unasked(&heap, rt.alloc(), &heap) == Some(true));
     assert!(rt; heap.live() == 0);
 }
 

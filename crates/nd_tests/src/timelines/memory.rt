@@ -15,14 +15,21 @@ use std::alloc::{AllocError, Allocator, Global};
 /// The allocator of these tests.
 pub type Heap = Refusing<Global>;
 
-const NOTHING: Told = Told::Feed(0, "a", &[], Next::Next);
-
 /// Ten feeds of nothing.
 pub static TEN: Script = (
     LINE,
     1,
     &[
-        NOTHING, NOTHING, NOTHING, NOTHING, NOTHING, NOTHING, NOTHING, NOTHING, NOTHING, NOTHING,
+        Told::Feed(0, "a", &[], Next::Next),
+        Told::Feed(0, "a", &[], Next::Next),
+        Told::Feed(0, "a", &[], Next::Next),
+        Told::Feed(0, "a", &[], Next::Next),
+        Told::Feed(0, "a", &[], Next::Next),
+        Told::Feed(0, "a", &[], Next::Next),
+        Told::Feed(0, "a", &[], Next::Next),
+        Told::Feed(0, "a", &[], Next::Next),
+        Told::Feed(0, "a", &[], Next::Next),
+        Told::Feed(0, "a", &[], Next::Next),
     ],
 );
 
@@ -93,8 +100,15 @@ pub fn is_after<A: Allocator + Copy>(
 /// Returns whether a jump from one end of a script to the other met the refused request.
 ///
 /// If it did, the cursor is short of the other end, at the reported position; otherwise it is at the other end.
-fn meets_jump(heap: &Heap, json: Global, script: &Script, is_back: bool, n: u64) -> Option<bool> {
-    let mut timeline = kept(json, heap, script)?;
+fn meets_jump<A: Allocator + Copy>(
+    heap: &Heap,
+    json: Global,
+    alloc: A,
+    script: &Script,
+    is_back: bool,
+    n: u64,
+) -> Option<bool> {
+    let mut timeline = kept(json, alloc, script)?;
     let kept = timeline.kept();
     let to = if is_back { 0 } else { kept };
     if !is_back {
@@ -111,14 +125,20 @@ fn meets_jump(heap: &Heap, json: Global, script: &Script, is_back: bool, n: u64)
 }
 
 /// Returns how many requests of such a jump were refused before it met none.
-fn jumps(heap: &Heap, json: Global, script: &Script, is_back: bool) -> Option<u64> {
-    in_turn!(n: meets_jump(heap, json, script, is_back, n))
+fn jumps<A: Allocator + Copy>(
+    heap: &Heap,
+    json: Global,
+    alloc: A,
+    script: &Script,
+    is_back: bool,
+) -> Option<u64> {
+    in_turn!(n: meets_jump(heap, json, alloc, script, is_back, n))
 }
 
 /// Returns whether a jump meets at least `least` refusals, forward and backward.
 fn meets_each_way(heap: &Heap, json: Global, script: &Script, least: u64) -> bool {
     for is_back in [false, true] {
-        match jumps(heap, json, script, is_back) {
+        match jumps(heap, json, heap, script, is_back) {
             Some(n) if n >= least => {}
             _ => return false,
         }
@@ -168,14 +188,15 @@ fn copied<A: Allocator + Copy>(json: Global, alloc: A, script: &Script) -> Optio
 }
 
 /// Returns whether a run met the refused request; if it did, it stays where it stopped.
-fn meets_run<'a>(
-    heap: &'a Heap,
+fn meets_run<A: Allocator + Copy>(
+    heap: &Heap,
     json: Global,
-    only: &Option<Processors<&'a Heap>>,
+    alloc: A,
+    only: &Option<Processors<A>>,
     n: u64,
 ) -> Option<bool> {
-    let mut timeline = copied(json, heap, &ONE)?;
-    let breaks = Breaks::new(heap).ok()?;
+    let mut timeline = copied(json, alloc, &ONE)?;
+    let breaks = Breaks::new(alloc).ok()?;
     let met = met!(heap, n: timeline.run(10, only.as_ref(), &breaks);
         Fault::Memory { at: timeline.at() }, true)?;
     let (at, kept) = (timeline.at(), timeline.kept());
@@ -188,10 +209,10 @@ fn meets_run<'a>(
 }
 
 /// Returns whether a step forward met the request that was refused: then the timeline is where it was.
-fn meets_forward(heap: &Heap, json: Global, n: u64) -> Option<bool> {
-    let mut timeline = copied(json, heap, &ONE)?;
+fn meets_forward<A: Allocator + Copy>(heap: &Heap, json: Global, alloc: A, n: u64) -> Option<bool> {
+    let mut timeline = copied(json, alloc, &ONE)?;
     let step = step_of(
-        heap,
+        alloc,
         timeline.cluster().graph(),
         &Told::Take(0, "az", &[0], 5),
     )?;
@@ -217,52 +238,64 @@ fn meets_again<A: Allocator + Copy>(
 }
 
 /// Does the same for a new timeline, and for copies of a timeline and of a command.
-fn meets_copy<'a>(heap: &'a Heap, base: &Timeline<&'a Heap>, call: &Move, n: u64) -> Option<bool> {
+fn meets_copy<A: Allocator + Copy>(
+    heap: &Heap,
+    alloc: A,
+    base: &Timeline<A>,
+    call: &Move,
+    n: u64,
+) -> Option<bool> {
     match call {
         Move::New => {
-            let cluster = base.cluster().copy(heap).ok()?;
-            met!(heap, n: Timeline::new(heap, cluster); AllocError, true)
+            let cluster = base.cluster().copy(alloc).ok()?;
+            met!(heap, n: Timeline::new(alloc, cluster); AllocError, true)
         }
-        Move::Copy => met!(heap, n: base.copy(heap); AllocError, true),
+        Move::Copy => met!(heap, n: base.copy(alloc); AllocError, true),
         _ => {
             let asked = Asked::RunOnly(10, &[0, 0]);
-            let command = command_of(heap, base.cluster().graph(), &asked)?;
-            met!(heap, n: command.copy(heap); AllocError, true)
+            let command = command_of(alloc, base.cluster().graph(), &asked)?;
+            met!(heap, n: command.copy(alloc); AllocError, true)
         }
     }
 }
 
 /// Returns whether a move met the refused request; if it did, the timeline is where it was, or a run where it stopped.
-fn meets(heap: &Heap, json: Global, call: &Move, n: u64) -> Option<bool> {
+fn meets<A: Allocator + Copy>(
+    heap: &Heap,
+    json: Global,
+    alloc: A,
+    call: &Move,
+    n: u64,
+) -> Option<bool> {
     match call {
         Move::New | Move::Copy | Move::CopyCommand => {
-            meets_copy(heap, &kept(json, heap, &ALL)?, call, n)
+            meets_copy(heap, alloc, &kept(json, alloc, &ALL)?, call, n)
         }
-        Move::Forward => meets_forward(heap, json, n),
+        Move::Forward => meets_forward(heap, json, alloc, n),
         Move::Back | Move::Redo => {
-            meets_again(heap, json, &mut copied(json, heap, &ALL)?, call, n)
+            meets_again(heap, json, &mut copied(json, alloc, &ALL)?, call, n)
         }
         Move::Run => {
-            let all: Option<Processors<&Heap>> = None;
-            meets_run(heap, json, &all, n)
+            let all: Option<Processors<A>> = None;
+            meets_run(heap, json, alloc, &all, n)
         }
         Move::RunOnly => {
-            let only = Some(processors_of(heap, &[0, 0])?);
-            meets_run(heap, json, &only, n)
+            let only = Some(processors_of(alloc, &[0, 0])?);
+            meets_run(heap, json, alloc, &only, n)
         }
     }
 }
 
 /// Returns how many requests of a move were refused before it met none.
-fn refused(heap: &Heap, json: Global, call: &Move) -> Option<u64> {
-    in_turn!(n: meets(heap, json, call, n))
+fn refused<A: Allocator + Copy>(heap: &Heap, json: Global, alloc: A, call: &Move) -> Option<u64> {
+    in_turn!(n: meets(heap, json, alloc, call, n))
 }
 
 #[test]
 fn moves_out_of_memory(rt: HostRuntime) {
     let heap = Refusing::new(rt.alloc());
     for (i, (call, asks)) in MOVES.iter().enumerate() {
-        let count = refused(&heap, rt.alloc(), call);
+        let count = refused(&heap, rt.alloc(), &heap, call);
         assert!(rt; matches!(count, Some(n) if n > 0 || !*asks), "in row {i}");
         assert!(rt; heap.live() == 0, "in row {i}");
     }

@@ -25,9 +25,9 @@ fn tells<A: Allocator + Copy>(
 }
 
 /// Returns whether it does so at a position while every request for memory is refused.
-fn stays(heap: &Heap, json: Global, at: u64) -> Option<bool> {
-    let mut timeline = kept(json, heap, &ALL)?;
-    let breaks = Breaks::new(heap).ok()?;
+fn stays<A: Allocator + Copy>(heap: &Heap, json: Global, alloc: A, at: u64) -> Option<bool> {
+    let mut timeline = kept(json, alloc, &ALL)?;
+    let breaks = Breaks::new(alloc).ok()?;
     timeline.jump(at).ok()?;
     Some(unasked!(heap: tells(&mut timeline, &breaks, at)?))
 }
@@ -36,7 +36,10 @@ fn stays(heap: &Heap, json: Global, at: u64) -> Option<bool> {
 fn staying_takes_no_memory(rt: HostRuntime) {
     let heap = Refusing::new(rt.alloc());
     for at in 0..5 {
-        assert!(rt; stays(&heap, rt.alloc(), at) == Some(true), "at {at}");
+        assert!(rt;
+            stays(&heap, rt.alloc(), &heap, at) == Some(true),
+            "at {at}"
+        );
     }
     assert!(rt; heap.live() == 0);
 }

@@ -4,18 +4,36 @@ use crate::opened::only;
 use crate::timelines::memory::{ALL, Heap, TEN, is_after, kept};
 use nd_breaks::Atom;
 use nd_examples::{SUM_NOTIFIED, Script, point};
-use nd_history::{ChangesFault, EffectFault, Snapshot, TurnsFault, changes, effect, turns};
+use nd_history::{ChangesFault, EffectFault, TurnsFault, changes, effect, turns};
 use nd_testing::{Refusing, in_turn, met};
 use nd_timeline::{Fault, Timeline};
 use std::alloc::{AllocError, Allocator, Global};
 
+/// Returns whether the beginning of a walk met the refused request.
+fn meets_beginning<A: Allocator + Copy>(
+    heap: &Heap,
+    json: Global,
+    alloc: A,
+    n: u64,
+) -> Option<bool> {
+    let timeline = kept(json, alloc, &ALL)?;
+    met!(heap, n: timeline.walk_near(alloc, 0); AllocError, true)
+}
+
 /// Returns whether a walk from one end of a script to the other met the refused request; if it did, it is at the reported
 /// position.
-fn meets_walk(heap: &Heap, json: Global, script: &Script, is_back: bool, n: u64) -> Option<bool> {
-    let timeline = kept(json, heap, script)?;
+fn meets_walk<A: Allocator + Copy>(
+    heap: &Heap,
+    json: Global,
+    alloc: A,
+    script: &Script,
+    is_back: bool,
+    n: u64,
+) -> Option<bool> {
+    let timeline = kept(json, alloc, script)?;
     let kept = timeline.kept();
     let (near, to) = if is_back { (kept, 0) } else { (0, kept) };
-    let Ok(mut walk) = timeline.walk_near(heap, near) else {
+    let Ok(mut walk) = timeline.walk_near(alloc, near) else {
         return None;
     };
     let met = met!(heap, n: timeline.walk_to(&mut walk, to); Fault::Memory { at: walk.at }, true)?;
@@ -27,16 +45,29 @@ fn meets_walk(heap: &Heap, json: Global, script: &Script, is_back: bool, n: u64)
 }
 
 /// Returns how many requests of such a walk were refused before it met none.
-fn walks(heap: &Heap, json: Global, script: &Script, is_back: bool) -> Option<u64> {
-    in_turn!(n: meets_walk(heap, json, script, is_back, n))
+fn walks<A: Allocator + Copy>(
+    heap: &Heap,
+    json: Global,
+    alloc: A,
+    script: &Script,
+    is_back: bool,
+) -> Option<u64> {
+    in_turn!(n: meets_walk(heap, json, alloc, script, is_back, n))
+}
+
+/// Does the same for its beginning.
+fn beginnings<A: Allocator + Copy>(heap: &Heap, json: Global, alloc: A) -> Option<u64> {
+    in_turn!(n: meets_beginning(heap, json, alloc, n))
 }
 
 #[test]
 fn walk_out_of_memory(rt: HostRuntime) {
     let heap = Refusing::new(rt.alloc());
+    let count = beginnings(&heap, rt.alloc(), &heap);
+    assert!(rt; matches!(count, Some(n) if n > 0));
     for (row, script) in [&TEN, &SUM_NOTIFIED, &ALL].into_iter().enumerate() {
         for is_back in [false, true] {
-            let count = walks(&heap, rt.alloc(), script, is_back);
+            let count = walks(&heap, rt.alloc(), &heap, script, is_back);
             assert!(rt; count.is_some(), "in row {row}");
         }
     }
@@ -52,27 +83,22 @@ enum Question {
     Turns,
     /// What the step that leads to a position changed.
     Effect(u64),
-    BeginWalk,
-    Snapshot,
-    CopyOfSnapshot,
 }
 
-static QUESTIONS: [Question; 9] = [
+static QUESTIONS: [Question; 6] = [
     Question::Changes,
     Question::Turns,
     Question::Effect(1),
     Question::Effect(2),
     Question::Effect(3),
     Question::Effect(4),
-    Question::BeginWalk,
-    Question::Snapshot,
-    Question::CopyOfSnapshot,
 ];
 
 /// Returns whether a question met the request that was refused.
-fn meets_question<'a>(
-    heap: &'a Heap,
-    timeline: &Timeline<&'a Heap>,
+fn meets_question<A: Allocator + Copy>(
+    heap: &Heap,
+    alloc: A,
+    timeline: &Timeline<A>,
     question: &Question,
     n: u64,
 ) -> Option<bool> {
@@ -80,7 +106,7 @@ fn meets_question<'a>(
     match question {
         Question::Changes => {
             let az = point(timeline.cluster().graph(), "az", &[0])?;
-            met!(heap, n: changes(heap, timeline, 0, &az, 0, kept); ChangesFault::Memory, true)
+            met!(heap, n: changes(alloc, timeline, 0, &az, 0, kept); ChangesFault::Memory, true)
         }
         Question::Turns => {
             let condition = only(Atom::Queue {
@@ -88,24 +114,24 @@ fn meets_question<'a>(
                 to: 0,
                 at_least: 1,
             });
-            met!(heap, n: turns(heap, timeline, &condition, 0, kept); TurnsFault::Memory, true)
+            met!(heap, n: turns(alloc, timeline, &condition, 0, kept); TurnsFault::Memory, true)
         }
         Question::Effect(to) => {
-            met!(heap, n: effect(heap, timeline, *to); EffectFault::Memory, true)
-        }
-        Question::BeginWalk => met!(heap, n: timeline.walk_near(heap, 0); AllocError, true),
-        Question::Snapshot => met!(heap, n: Snapshot::of(heap, timeline, 7); AllocError, true),
-        Question::CopyOfSnapshot => {
-            let snapshot = Snapshot::of(heap, timeline, 7).ok()?;
-            met!(heap, n: snapshot.copy(heap); AllocError, true)
+            met!(heap, n: effect(alloc, timeline, *to); EffectFault::Memory, true)
         }
     }
 }
 
 /// Does the same on the timeline of four steps: then all is where it was.
-fn stays(heap: &Heap, json: Global, question: &Question, n: u64) -> Option<bool> {
-    let timeline = kept(json, heap, &ALL)?;
-    let met = meets_question(heap, &timeline, question, n)?;
+fn stays<A: Allocator + Copy>(
+    heap: &Heap,
+    json: Global,
+    alloc: A,
+    question: &Question,
+    n: u64,
+) -> Option<bool> {
+    let timeline = kept(json, alloc, &ALL)?;
+    let met = meets_question(heap, alloc, &timeline, question, n)?;
     let is_there = (timeline.at(), timeline.kept()) == (4, 4);
     if is_there && is_after(json, timeline.cluster(), &ALL, 4)? {
         Some(met)
@@ -115,15 +141,20 @@ fn stays(heap: &Heap, json: Global, question: &Question, n: u64) -> Option<bool>
 }
 
 /// Returns how many requests of a question were refused before it met none.
-fn questions(heap: &Heap, json: Global, question: &Question) -> Option<u64> {
-    in_turn!(n: stays(heap, json, question, n))
+fn questions<A: Allocator + Copy>(
+    heap: &Heap,
+    json: Global,
+    alloc: A,
+    question: &Question,
+) -> Option<u64> {
+    in_turn!(n: stays(heap, json, alloc, question, n))
 }
 
 #[test]
 fn questions_out_of_memory(rt: HostRuntime) {
     let heap = Refusing::new(rt.alloc());
     for (i, question) in QUESTIONS.iter().enumerate() {
-        let count = questions(&heap, rt.alloc(), question);
+        let count = questions(&heap, rt.alloc(), &heap, question);
         assert!(rt; matches!(count, Some(n) if n > 0), "in row {i}");
     }
     assert!(rt; heap.live() == 0);
