@@ -3,8 +3,8 @@
 An edit counts if a clause is left open: what the function ensures, an invariant of its loop or of its type,
 or what a function that it calls requires by a named clause. That is so, too, if the answer to such a goal does
 not fit any more. An index out of range or a sum that may not fit shows nothing of the contract. An answer that
-names what the edit took away, or a tactic that stopped at a limit of its own, might refuse a right body that
-is written otherwise, too."""
+names what the edit took away, or a `grind` that stopped at a limit of its own, might refuse a right body that
+is written otherwise, too. Where the search for a clause ended at its limit, the edit counts for less."""
 import enum
 import re
 
@@ -32,7 +32,7 @@ OF_NAMES = re.compile(r"has no field|is not in scope|has no `|that can be named 
 # what cites a proof that was refused for another line
 FOLLOWS = re.compile(r"(?:\./)?proofs/.*(was not admitted|was not checked)")
 AT_LIMIT = re.compile(r"stopped at (its own|the step) limit|the goal may hold|ran out of|outgrew")
-OF_SEARCH = re.compile(r"`search` gave up at one of its limits")
+OF_SEARCH = re.compile(r"`search` gave up at one of its limits|`search`: no proof of .*limit")
 
 
 def kind_of(line):
@@ -44,10 +44,10 @@ def kind_of(line):
         return Kind.NAMES
     if not OPEN_CLAUSE.match(line) and not (answer and OF_CLAUSE.match(answer[1] or "")):
         return Kind.OTHER
-    if AT_LIMIT.search(line):
-        return Kind.LIMIT
     if OF_SEARCH.search(line):
         return Kind.SEARCH
+    if AT_LIMIT.search(line):
+        return Kind.LIMIT
     return Kind.MISFIT if answer else Kind.CLAUSE
 
 

@@ -13,11 +13,11 @@ where another changes what a function takes, are tried together again, as long a
 not refused so is tried again with the rest, and at last alone, over what the earlier checks of this run
 proved and then from nothing.
 
-Two refusals count only after a second trial, since a right body might meet them, too. If a tactic stopped at
-a limit of its own, the edit needs lines `-- right: TEXT`, one for each pair: a right body in the form of the
-wrong one, with which the function is proved in the same check. If answers name what the edit took away, such
-lines serve, too. Otherwise these answers are left out, so that the prover searches: a clause must be open with
-the edit, and the function as it was must be proved."""
+Two refusals might meet a right body, too. If `grind` stopped at a limit of its own, the edit needs lines
+`-- right: TEXT`, one for each pair: a right body in the form of the wrong one, with which the function is
+proved in the same check. If answers name what the edit took away, such lines serve, too. Otherwise there is a
+second trial without these answers, so that the prover searches: a clause must be open with the edit, and the
+function as it was must be proved."""
 import collections
 import copy
 import functools
