@@ -1,10 +1,11 @@
 """Which of the prover's lines show that a body breaks its contract.
 
 An edit counts if a clause is left open: what the function ensures, an invariant of its loop or of its type,
-or what a function that it calls requires by a named clause. That is so, too, if the answer to such a goal does
-not fit any more. An index out of range or a sum that may not fit shows nothing of the contract. An answer that
-names what the edit took away, or a `grind` that stopped at a limit of its own, might refuse a right body that
-is written otherwise, too. Where the search for a clause ended at its limit, the edit counts for less."""
+or what a function that it calls requires by a named clause. That is so, too, if the answer to such a goal
+does not fit any more. An index out of range or a sum that may not fit shows nothing of the contract. An
+answer that names what the edit took away, or a `grind` that stopped at a limit of its own, might refuse a
+right body that is written otherwise, too. Where the search for a clause ended at its limit, the edit counts
+for less."""
 import enum
 import re
 
@@ -22,8 +23,8 @@ class Kind(enum.IntEnum):
 
 # a goal without an answer, by the prover's words for it
 OPEN_CLAUSE = re.compile(
-    r"note: .*: it is not proved that"
-    r" (what the function ensures|the invariant |the `invariant` |the struct's ghost fields|what \S+ requires)"
+    r"note: .*: it is not proved that (what the function ensures|what \S+ requires|the invariant "
+    r"|the `invariant` |the struct's ghost fields)"
 )
 # an answer that does not fit, with its goal's name where the prover gives it
 WRONG_ANSWER = re.compile(r"(?:\./)?proofs/\S+?:\d+:\d+: error: (?:`([^`]+)`: )?")

@@ -15,9 +15,9 @@ proved and then from nothing.
 
 Two refusals might meet a right body, too. If `grind` stopped at a limit of its own, the edit needs lines
 `-- right: TEXT`, one for each pair: a right body in the form of the wrong one, with which the function is
-proved in the same check. If answers name what the edit took away, such lines serve, too. Otherwise there is a
-second trial without these answers, so that the prover searches: a clause must be open with the edit, and the
-function as it was must be proved."""
+proved in the same check. If answers name what the edit took away, such lines serve, too. Otherwise there is
+a second trial without these answers, so that the prover searches: a clause must be open with the edit, and
+the function as it was must be proved."""
 import collections
 import copy
 import functools
@@ -441,10 +441,6 @@ def shown(found):
     return strongest(line for lines in found.values() for line in lines)
 
 
-def are_proved(verdicts, functions):
-    return all(verdicts.get(path_of(verdicts, it)) == "proved" for it in functions)
-
-
 def own_name(function):
     """The function's name without what is added to it where it stands once more."""
     return re.fullmatch(rf"(.*?)(?:{AGAIN})*", function.names)[1]
@@ -455,8 +451,8 @@ Trial = collections.namedtuple("Trial", "path wrong")
 
 
 def outcomes(rt, crate, trials, flags, kept):
-    """For the file of each trial whether its functions are proved, and the lines against each of them; nothing
-    for one that cannot be read, or that changes anything else."""
+    """For the file of each trial whether its functions are proved, and the lines against each of them;
+    nothing for one that cannot be read, or that changes anything else."""
     wrong, found = {it.path: it.wrong for it in trials}, {}
 
     def judge(left):
@@ -491,8 +487,8 @@ def first_trial(rt, crate, edits, flags, kept, room):
 
 
 def second_trial(rt, crate, doubtful, flags, kept, room):
-    """The clause that is open in each of these edits, which are given with the lines against their functions,
-    without the answers that do not fit, where the function as it was is proved without them."""
+    """The clause that is open in each of these edits, which are given with the lines against their
+    functions, without the answers that do not fit, where the function as it was is proved without them."""
     with_edit, as_it_was = {}, {}
     for number, (edit, found) in enumerate(doubtful.items()):
         wrong = {own_name(at): wrong_answers(lines) for at, lines in found.items()}
