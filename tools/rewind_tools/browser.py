@@ -21,6 +21,10 @@ KEYS = {
     "end": "\ue010",
     "enter": "\ue007",
     "tab": "\ue004",
+    "space": "\ue00d",
+    "pageup": "\ue00e",
+    "pagedown": "\ue00f",
+    "delete": "\ue017",
 }
 PATIENCE = 20
 

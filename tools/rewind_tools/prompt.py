@@ -1,33 +1,24 @@
 """The debugger at a prompt: short commands, answers in words.
 
-Each command is a line of a script (rewind_tools/typed.py), a line as JSON, or one of the words in OWN."""
+Each command is a word of the script (rewind_tools/typed.py), a line as JSON, or a word of which the class
+Prompt has a method do_WORD; its documentation is what 'help' says of it."""
+import cmd
 import json
+import signal
 
-from rewind_tools.script import COMMANDS, FORMS, NEXTS, QUERIES, STEPS
-from rewind_tools.session import read_script, script_of
-from rewind_tools.telling import faults, names
-from rewind_tools.telling.answers import Teller
-from rewind_tools.telling.commands import FIRM
-from rewind_tools.telling.effects import effect_words
-from rewind_tools.telling.table import queues_and_sinks, table
-from rewind_tools.typed import MARKED, NotTyped, line_of, usage, words_of_line
+from rewind_tools import completing, graph_text, opening
+from rewind_tools.debugger import MOST_SHOWN, Debugger
+from rewind_tools.script import COMMANDS, FORMS, QUERIES, STEPS
+from rewind_tools.session import script_of, write_text
+from rewind_tools.telling.answers import all_candidates
+from rewind_tools.telling.commands import command_words, counted, edge_words, vertex_words
+from rewind_tools.tool import words_of
+from rewind_tools.typed import NotTyped, condition_help, line_of, usage, words_of_line
 
 LIMIT = 1000
-OWN = {
-    "can": ("", "list the steps that may be executed now, and what the others wait for"),
-    "do": ("N", "execute step N of the list of 'can'"),
-    "next": ("[N] [only P ..]", "execute the next N enabled steps, 1 if not given"),
-    "until": ("CONDITION", f"run until a condition holds, at most {LIMIT} steps"),
-    "changed": ("[N]", "what the step that leads to position N changed, or the last step"),
-    "where": ("", "the cursor and the kept steps"),
-    "load": ("FILE", "execute the commands of a script on the session's graph"),
-    "save": ("FILE", "write the script of the kept steps"),
-    "raw": ("on|off", "print replies as JSON, or in words"),
-    "help": ("[WORD]", "list the commands, or show the form of one"),
-    "quit": ("", "end; Ctrl-D does so too"),
-}
-# Commands of the script that take a number of times, or have a default for what is left out.
-MEANS = {"back": "undo N steps, 1 if not given", "redo": "execute N undone steps again, 1 if not given"}
+# How wide the forms in the help are.
+WIDTH = 49
+# Of each word of the script what it does.
 KINDS = {
     "feed": "give values to an input", "take": "consume a record; alone, the first that is enabled",
     "notice": "deliver a notification; alone, the first that is enabled",
@@ -35,7 +26,8 @@ KINDS = {
     "run": f"execute at most N steps, {LIMIT} if not given, of all processors or of some only",
     "broadcast": "send progress updates; alone, the first that is enabled", "jump": "go to position N",
     "receive": "receive the first update of a queue; alone, the first that is enabled",
-    "break": "set a breakpoint",
+    "back": "undo N steps, 1 if not given", "redo": "execute N undone steps again, 1 if not given",
+    "break": "set a breakpoint; 'breaks' lists them",
     "unbreak": "remove a breakpoint", "state": "the complete state",
     "why": "why a processor does not consider a time finished",
     "turns": "where a condition begins and ceases to hold",
@@ -43,38 +35,55 @@ KINDS = {
     "frontier": "the frontier of a view, or the times that can still arrive",
     "passed": "whether a view has passed a time",
     "changes": "when a view changed", "step": "the step that leads to position N",
-    "export": "the kept steps",
+    "export": f"the kept steps from step N on, {MOST_SHOWN} at a time; from the first if not given",
     "candidates": "as 'can'", "effect": "as 'changed'", "view": "a processor's view",
     "count": "what is really at a time",
     "before": "whether one point could result in another",
 }  # fmt: skip
+FORM_OF = {"back": "[N]", "redo": "[N]", "export": "[N]"}
 
 
-class Done(Exception):
-    """The prompt is to end."""
+class Prompt(cmd.Cmd, Debugger):
+    """A session at a prompt."""
 
+    def __init__(self, session, is_raw=False, is_terminal=False):
+        cmd.Cmd.__init__(self)
+        Debugger.__init__(self, session, is_raw, is_terminal)
+        self.use_rawinput = is_terminal
 
-class Prompt:
-    """A session with what its prompt has to remember: the cursor, the kept steps, the last list of
-    candidates."""
+    # ---- the line and its answer
 
-    def __init__(self, session, say, is_raw=False):
-        self.session, self.say, self.is_raw = session, say, is_raw
-        self.at = self.kept = 0
-        graph = names.Graph(session.graph, session.version)
-        self.teller = Teller(graph, session.started["processors"], False, session.version)
+    @property
+    def prompt(self):
+        return f"{self.at}/{self.kept}> " if self.is_terminal else ""
 
-    def enter(self, text):
-        """Executes one typed line."""
-        text = text.strip()
-        if text.startswith("{"):
-            return self.ask_text(text)
-        words = words_of_line(text)
+    def onecmd(self, line):
+        """Executes one typed line; true if it is the last."""
+        try:
+            with self.stop:
+                return super().onecmd(line)
+        except NotTyped as fault:
+            self.say(f"{fault}")
+        except BrokenPipeError:
+            raise
+        except OSError as fault:
+            if fault.filename is None:
+                raise
+            self.say(words_of(fault))
+        return False
+
+    def emptyline(self):
+        return False
+
+    def default(self, line):
+        """Executes a line of the script, as JSON or as it is typed."""
+        if line == "EOF":
+            return self.at_end()
+        if line.startswith("{"):
+            return self.ask_text(line)
+        words = words_of_line(line)
         if not words:
             return None
-        own = getattr(self, f"own_{words[0]}", None)
-        if own:
-            return own(words[1:])
         if words[0] not in FORMS:
             raise NotTyped(f"{words[0]} is no command; 'help' lists them")
         if words == ["release"]:
@@ -86,6 +95,17 @@ class Prompt:
     def defaults(self):
         return {"lo": 0, "hi": self.kept, "limit": LIMIT, "workers": 1, "to": self.at, "id": 0}
 
+    def own_words(self):
+        """The words that are the prompt's own."""
+        return [it[3:] for it in self.get_names() if it.startswith("do_")]
+
+    def completenames(self, text, line, begin, end):
+        return self.completedefault(text, line, begin, end)
+
+    def completedefault(self, text, line, begin, end):
+        found = completing.completions(self, line[:begin], text)
+        return [it if it.endswith("/") else f"{it} " for it in found]
+
     # ---- lines of the script
 
     def ask_text(self, text):
@@ -94,73 +114,6 @@ class Prompt:
         except ValueError as fault:
             raise NotTyped(f"that is no JSON: {fault}") from fault
         return self.ask(value)
-
-    def ask(self, value):
-        """Asks the program a line, and prints its answer and what a step changed."""
-        before = self.at
-        reply = self.session.ask(value)
-        self.at, self.kept = reply.get("at", self.at), reply.get("kept", self.kept)
-        if self.is_raw:
-            self.say(json.dumps(reply, separators=(",", ":"), ensure_ascii=False))
-            return reply
-        for sentence in self.answer(value, reply):
-            self.say(sentence.replace(FIRM, " "))
-        if value["do"] in STEPS and self.at == before + 1:
-            self.own_changed([])
-        if "state" in reply:
-            self.show_state(reply["state"])
-        return reply
-
-    def answer(self, value, reply):
-        if "line" in reply and "error" in reply:
-            text = json.dumps(value).encode()
-            return faults.faulty(reply, faults.line_faults(text, reply, self.teller))
-        state = (
-            self.session.ask({"do": "state"})["state"] if "error" in reply and value["do"] in STEPS else None
-        )
-        return self.teller.told(value, reply, state)
-
-    def show_state(self, state):
-        for line in [
-            *table(state, None, self.teller.graph.order, True),
-            *queues_and_sinks(state, None, True),
-        ]:
-            self.say(line)
-
-    def first_of(self, kind):
-        """Executes the first enabled step of a kind."""
-        found = [it["step"] for it in self.candidates() if it["step"]["do"] == kind and "refused" not in it]
-        if not found:
-            raise NotTyped(f"no {kind} is enabled; 'can' shows what each step waits for")
-        return self.ask(found[0])
-
-    def candidates(self):
-        return self.session.ask({"do": "candidates"})["candidates"]
-
-    # ---- the prompt's own words
-
-    def own_can(self, rest):
-        reply = self.session.ask({"do": "candidates"})
-        if self.is_raw:
-            return self.say(json.dumps(reply, separators=(",", ":"), ensure_ascii=False))
-        if not reply["candidates"]:
-            return self.say("no step is left but a feed")
-        first, *sentences = self.teller.told({"do": "candidates"}, reply, None)
-        for number, sentence in enumerate(sentences):
-            self.say(f"{number:3}  {sentence.replace(FIRM, ' ')}")
-        return self.say(first)
-
-    def own_do(self, rest):
-        candidates = self.candidates()
-        number = int(rest[0]) if len(rest) == 1 and rest[0].isdigit() else -1
-        if not 0 <= number < len(candidates):
-            raise NotTyped(
-                f"do needs the number of a step from the list of 'can', 0 to {len(candidates) - 1}"
-            )
-        return self.ask(candidates[number]["step"])
-
-    def own_next(self, rest):
-        return self.ask(line_of(["run", *rest], {"limit": 1}))
 
     def held(self):
         """Says which capabilities hold vertices hold, each as the line that releases it."""
@@ -174,29 +127,52 @@ class Prompt:
         for it in held or ["no hold vertex holds a capability"]:
             self.say(it)
 
-    def own_back(self, rest):
-        return self.ask({"do": "jump", "to": max(0, self.at - self.count(rest))} if rest else {"do": "back"})
+    # ---- the prompt's own words
 
-    def own_redo(self, rest):
+    def do_can(self, rest):
+        """can [N]: list the steps that may be executed now and what the others wait for, from number N on"""
+        first = self.number("can", rest, 0)
+        reply = self.session.ask({"do": "candidates"})
+        if self.is_raw:
+            return self.say_json(reply)
+        head, sentences = all_candidates(self.teller, reply)
+        self.say_page("can", list(enumerate(sentences)), first)
+        return self.say(head)
+
+    def do_do(self, rest):
+        """do N: execute step N of the list of 'can'"""
+        candidates = self.candidates()
+        number = self.number("do", rest)
+        if not 0 <= number < len(candidates):
+            raise NotTyped(
+                f"do needs the number of a step from the list of 'can', 0 to {len(candidates) - 1}"
+            )
+        return self.ask(candidates[number]["step"])
+
+    def do_next(self, rest):
+        """next [N] [only P ...]: execute the next N enabled steps, 1 if not given"""
+        return self.ask(line_of(["run", *words_of_line(rest)], {"limit": 1}, "next"))
+
+    def do_back(self, rest):
         return self.ask(
-            {"do": "jump", "to": min(self.kept, self.at + self.count(rest))} if rest else {"do": "redo"}
+            {"do": "jump", "to": max(0, self.at - self.number("back", rest))} if rest else {"do": "back"}
         )
 
-    def count(self, rest):
-        if len(rest) > 1 or (rest and not rest[0].isdigit()):
-            raise NotTyped("this takes a number of steps, or nothing for one")
-        return int(rest[0]) if rest else 1
+    def do_redo(self, rest):
+        to = self.at + self.number("redo", rest) if rest else None
+        return self.ask({"do": "redo"} if to is None else {"do": "jump", "to": min(self.kept, to)})
 
-    def own_until(self, rest):
-        """Runs until a condition holds, by a breakpoint that is removed afterwards."""
-        line = line_of(["break", *rest])
-        if self.session.ask({"do": "turns", "when": line["when"], "lo": self.at, "hi": self.at}).get(
-            "at_lo"
-        ):
+    def do_until(self, rest):
+        """until CONDITION: run until a condition holds, at most 1000 steps"""
+        line = line_of(["break", *words_of_line(rest)], said="until")
+        now = self.session.ask({"do": "turns", "when": line["when"], "lo": self.at, "hi": self.at})
+        if now.get("at_lo"):
             return self.say(f"it holds already at position {self.at}")
         made = self.session.ask(line)
         if "id" not in made:
-            raise NotTyped("the condition names something that is not there, or 32 breakpoints are set")
+            for sentence in self.answer(line, made):
+                self.say(sentence)
+            return None
         self.teller.keep(line, made)
         try:
             return self.ask({"do": "run", "limit": LIMIT})
@@ -204,98 +180,165 @@ class Prompt:
             self.session.ask({"do": "unbreak", "id": made["id"]})
             self.teller.breaks.pop(made["id"], None)
 
-    def own_changed(self, rest):
-        position = self.count(rest) if rest else self.at
+    def do_breaks(self, rest):
+        """breaks: list the breakpoints that are set"""
+        for number, words in sorted(self.teller.breaks.items()):
+            self.say(f"{number:3}  {words}")
+        if not self.teller.breaks:
+            self.say("no breakpoint is set")
+
+    def do_changed(self, rest):
+        """changed [N]: the step that leads to position N, or the last step, and what it changed"""
+        position = self.number("changed", rest, self.at)
         if position == 0:
             raise NotTyped("no step leads to position 0")
-        reply = self.session.ask({"do": "effect", "to": position})
+        return self.tell_change(position)
+
+    def do_where(self, rest):
+        """where: the cursor and the kept steps"""
         if self.is_raw:
-            return self.say(json.dumps(reply, separators=(",", ":"), ensure_ascii=False))
-        sentences = (
-            effect_words(reply["changed"], self.teller.graph.holds)
-            if "changed" in reply
-            else self.answer({"do": "effect", "to": position}, reply)
-        )
-        for sentence in sentences:
-            self.say(f"  {sentence.replace(FIRM, ' ')}")
+            return self.say_json({"at": self.at, "kept": self.kept})
+        return self.say(f"position {self.at} of {self.kept}")
+
+    def do_graph(self, rest):
+        """graph: list the vertices, each with the edges that leave it"""
+        if self.is_raw:
+            return self.say_json(self.session.graph)
+        for vertex in self.teller.graph.vertices.values():
+            self.say(vertex_words(vertex))
+            for edge in self.teller.graph.edges.values():
+                if edge["from"] == vertex["name"]:
+                    self.say(f"    {edge_words(edge)}")
         return None
 
-    def own_where(self, rest):
-        self.say(f"position {self.at} of {self.kept}")
+    def do_export(self, rest):
+        first = self.number("export", rest, 1)
+        reply = self.session.ask({"do": "export"})
+        if self.is_raw:
+            return self.say_json(reply)
+        self.say(f"{counted(len(reply['steps']), 'kept step')}, and the cursor is at {reply['at']}")
+        listed = [(at, command_words(it)) for at, it in enumerate(reply["steps"], 1)]
+        return self.say_page("export", listed, first)
 
-    def own_load(self, rest):
-        if len(rest) != 1:
-            raise NotTyped("load needs the name of a file")
-        with open(rest[0], "rb") as it:
-            _, commands, left_out = read_script(it.read())
-        refused = self.execute(commands)
-        self.say(
-            f"{len(commands)} commands executed, {refused} of them refused; {left_out} other lines left out"
-        )
-        self.own_where([])
+    def do_undrop(self, rest):
+        """undrop: bring back the run that the last new step discarded; again, the one before it"""
+        reply = self.dropped.bring_back()
+        if reply is None:
+            raise NotTyped("no kept steps were discarded")
+        self.at, self.kept, self.is_unsaved = reply["at"], reply["kept"], True
+        self.do_where("")
 
-    def execute(self, commands):
-        """Executes commands without a word of each, and returns how many were refused."""
-        replies = self.session.ask_all(commands) if commands else []
-        for it in replies:
-            self.at, self.kept = it.get("at", self.at), it.get("kept", self.kept)
-        return sum("error" in it for it in replies)
+    def do_load(self, rest):
+        """load FILE: execute the commands of a script with the same graph"""
+        path = self.file("load", rest)
+        with open(path, "rb") as it:
+            script = self.read_script(path, it.read())
+        if script.graph != self.session.graph:
+            what = "has no graph" if script.graph is None else "has another graph than this session"
+            raise NotTyped(f"{path} {what}: nothing is executed; 'tools/repl {path}' opens it")
+        gone = self.dropped.around(lambda: self.execute(script), self.at, self.kept)
+        if gone:
+            self.note(f"{counted(gone, 'kept step')} discarded; 'undrop' brings the run back")
+        self.do_where("")
 
-    def own_save(self, rest):
-        if len(rest) != 1:
-            raise NotTyped("save needs the name of a file")
-        with open(rest[0], "w", encoding="utf-8") as it:
-            it.write(script_of(self.session))
+    def read_script(self, path, script):
+        """A script's graph and lines."""
+        try:
+            return opening.read(graph_text.with_json(script))
+        except graph_text.Wrong as wrong:
+            raise NotTyped(f"{path}: {wrong}") from wrong
+
+    def do_save(self, rest):
+        """save FILE: write the script of the kept steps"""
+        path = self.file("save", rest)
+        write_text(path, script_of(self.session))
+        self.is_unsaved = False
         words = " ".join(self.session.words)
-        self.say(f"saved; './rewind {words}{' ' * bool(words)}< {rest[0]}' executes it again")
+        self.say(f"saved; './rewind {words}{' ' * bool(words)}< {path}' executes it again")
 
-    def own_raw(self, rest):
-        self.is_raw = rest != ["off"]
+    def do_raw(self, rest):
+        """raw on|off: print replies as JSON, or in words"""
+        if rest not in ("on", "off"):
+            raise NotTyped("raw takes on or off")
+        self.is_raw = rest == "on"
 
-    def own_help(self, rest):
-        if rest:
-            return self.help_of(rest[0])
-        for title, words in (("Commands", COMMANDS), ("Queries", QUERIES)):
+    def do_quit(self, rest):
+        """quit: end; Ctrl-D does so too"""
+        return not self.is_unsaved or not self.is_terminal or self.may_lose()
+
+    do_exit = do_quit
+
+    def at_end(self):
+        """What Ctrl-D does, and the end of a pipe."""
+        if self.is_terminal:
+            self.say("")
+        return self.do_quit("")
+
+    def may_lose(self):
+        """Asks whether the steps that no file has may be lost; a second Ctrl-D says yes."""
+        said = f"{counted(self.kept, 'kept step')} not saved; 'save FILE' saves them."
+        handler = signal.signal(signal.SIGINT, signal.default_int_handler)
+        try:
+            return input(f"{said} End all the same (y/n)? ").strip().lower() in ("y", "yes")
+        except EOFError:
+            self.say("")
+            return True
+        except KeyboardInterrupt:
+            self.say("")
+            return False
+        finally:
+            signal.signal(signal.SIGINT, handler)
+
+    def number(self, word, rest, without=1):
+        """The number after a word; what stands for it if there is none."""
+        words = words_of_line(rest)
+        if len(words) > 1 or (words and not (words[0].isascii() and words[0].isdigit())):
+            raise NotTyped(f"{word} takes one number from 0 on, or nothing")
+        return int(words[0]) if words else without
+
+    def file(self, word, rest):
+        words = words_of_line(rest)
+        if len(words) != 1:
+            raise NotTyped(f"{word} needs the name of a file")
+        return words[0]
+
+    # ---- help
+
+    def do_help(self, rest):
+        """help [WORD]: list the commands, or show the form of one, or of a 'condition'"""
+        words = words_of_line(rest)
+        if words == ["condition"]:
+            return self.help_condition()
+        if words:
+            return self.help_of(words[0])
+        for title, kind in (("Commands", COMMANDS), ("Queries", QUERIES)):
             self.say(f"{title}:")
-            for word in words:
-                self.say(f"  {word} {form_of(word)}".ljust(46) + KINDS.get(word, MEANS.get(word, "")))
+            for word in kind:
+                self.say(f"  {self.form_of(word)}".ljust(WIDTH) + KINDS[word])
         self.say("The prompt's own:")
-        for word, (form, meaning) in OWN.items():
-            self.say(f"  {word} {form}".ljust(46) + meaning)
+        for word in self.own_words():
+            if word not in FORMS and word != "exit":
+                form, _, meaning = getattr(self, f"do_{word}").__doc__.partition(": ")
+                self.say(f"  {form}".ljust(WIDTH) + meaning)
+        self.help_condition()
         return self.say(
             "A TIME is its numbers with commas, as 0 or 0,1. A line that begins with { is a script's line; #"
             " begins a comment."
         )
 
+    def help_condition(self):
+        for line in condition_help():
+            self.say(line)
+
+    def form_of(self, word):
+        form = FORM_OF[word] if word in FORM_OF else usage(word, {} if word in STEPS else self.defaults())
+        return f"{word} {form}".rstrip()
+
     def help_of(self, word):
-        if word in OWN:
-            return self.say(f"{word} {OWN[word][0]}: {OWN[word][1]}")
-        if word not in FORMS:
+        own = getattr(self, f"do_{word}", None)
+        if word not in FORMS and not own:
             raise NotTyped(f"{word} is no command; 'help' lists them")
-        return self.say(f"{word} {form_of(word)}: {KINDS.get(word, MEANS.get(word, ''))}")
-
-    def own_quit(self, rest):
-        raise Done
-
-    own_exit = own_quit
-
-
-def form_of(word):
-    return "[N]" if word in MEANS else usage(word)
-
-
-def completions(prompt, before, part):
-    """The words that may stand at the end of a line: commands at its start, names of the graph after it."""
-    if not before.strip():
-        return sorted(it for it in {*FORMS, *OWN} if it.startswith(part))
-    graph = prompt.teller.graph
-    word = before.split()[0]
-    known = [
-        *graph.order,
-        *([*NEXTS, "to"] if word == "feed" else []),
-        *(["before"] if word == "why" else []),
-        *MARKED.get("run" if word == "next" else word, []),
-    ]
-    if word in ("until", "break", "search", "turns"):
-        known += ["passed", "count", "queue", "sink", "finished", "view", "not", "and", "or"]
-    return sorted(it for it in known if it.startswith(part))
+        said = f"{self.form_of(word)}: {KINDS[word]}" if word in FORMS else own.__doc__
+        self.say(said)
+        if "CONDITION" in said:
+            self.help_condition()

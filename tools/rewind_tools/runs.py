@@ -4,7 +4,8 @@
     told = run_script(open(path, "rb").read(), ["--processors", "3"])
     told.graph                the graph as the script's line has it, or None if none was met
     told.version              the version that the script's first line tells, else 1
-    told.status, told.error   the program's exit status, and what it wrote to standard error
+    told.status, told.error   the program's exit status, and what it wrote to standard error; what ./rewind
+                              says of itself is passed on as it is said
     told.entries              an Entry a reply, in the order of the replies, the graph's first:
         entry.line            the Line that it answers: line.number from 1, line.text as bytes without its
                               newline, line.value as JSON, None if it is none
@@ -28,6 +29,8 @@ one alone.
 import json
 import os
 import subprocess
+import sys
+import threading
 from typing import NamedTuple
 
 from rewind_tools.script import LAST
@@ -35,6 +38,14 @@ from rewind_tools.script import LAST
 TOP = os.path.dirname(os.path.dirname(os.path.dirname(os.path.abspath(__file__))))
 PROGRAM = os.environ.get("REWIND_PROGRAM", os.path.join(TOP, "rewind"))
 STATE = '{"do":"state"}'
+# How the lines begin in which ./rewind speaks of itself, which are no part of the program's words; and those
+# that were passed on.
+NOTES = (
+    "rewind: this answer is not proved",
+    "rewind: building the program",
+    "rewind: this program is proved",
+)
+passed_on = set()
 
 
 class Line(NamedTuple):
@@ -65,6 +76,12 @@ class Run(NamedTuple):
     status: int
     error: str
     output: bytes
+
+
+def environment():
+    """The program's environment: at a terminal with its session, in which ./rewind says once that no answer
+    is proved."""
+    return {**os.environ, **({"REWIND_SESSION": str(os.getsid(0))} if sys.stderr.isatty() else {})}
 
 
 def without_clients(words):
@@ -102,11 +119,30 @@ def opening_of(lines):
     return lines[: 1 if version_of(lines) == 1 else 2]
 
 
+def listen(lines, kept):
+    """Keeps the lines of the program's standard error, but passes the notes of ./rewind on as soon as they
+    are said: each once, however often the program is run."""
+    for line in lines:
+        if not line.startswith(NOTES):
+            kept.append(line)
+        elif line not in passed_on:
+            passed_on.add(line)
+            print(line, end="", file=sys.stderr, flush=True)
+
+
 def run_bytes(script, words):
-    """The program's status, the bytes that it writes, and what it says on standard error."""
-    how = {"executable": PROGRAM, "input": script, "stdout": subprocess.PIPE, "stderr": subprocess.PIPE}
-    ran = subprocess.run(["rewind", *words], **how)
-    return ran.returncode, ran.stdout, ran.stderr.decode(errors="replace")
+    """The program's status, the bytes that it writes, and what it says on standard error, without the notes
+    of ./rewind."""
+    reader, writer = os.pipe()
+    kept, pipes = [], {"stdin": subprocess.PIPE, "stdout": subprocess.PIPE, "stderr": writer}
+    with open(reader, encoding="utf-8", errors="replace") as lines:
+        with subprocess.Popen(["rewind", *words], executable=PROGRAM, env=environment(), **pipes) as program:
+            os.close(writer)
+            listener = threading.Thread(target=listen, args=[lines, kept])
+            listener.start()
+            output, _ = program.communicate(script)
+            listener.join()
+    return program.returncode, output, "".join(kept)
 
 
 def replies_of(output):
@@ -179,7 +215,8 @@ def run_script(script, words=(), queries=(STATE,)):
     words, lines = list(words), lines_of(script)
     version, opening = version_of(lines), opening_of(lines)
     asked, status, output, error = entries_asked(lines, queries, len(opening) - 1, words)
-    if status == 0 and len(asked) == len(lines) > 0:
+    is_log = any("number" in it.reply for it in asked)
+    if status == 0 and len(asked) == len(lines) > 0 and not is_log:
         return Run(words, version, graph_of(lines, asked), asked, status, error, output)
     status, output, error = run_bytes(script, words)
     alone = entries_alone(lines, replies_of(output))

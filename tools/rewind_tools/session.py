@@ -9,16 +9,22 @@
 
     opening, commands = read_script(open(path, "rb").read())      a script's graph, and the commands after it
 
-The program is ./rewind, or what REWIND_PROGRAM names in the environment."""
+The program is ./rewind, or what REWIND_PROGRAM names in the environment. It runs in a session of its own, so
+Ctrl-C at the terminal reaches the tool alone."""
+import contextlib
 import json
+import os
+import signal
 import subprocess
 import tempfile
 import threading
 
-from rewind_tools.runs import PROGRAM, lines_of
+from rewind_tools.runs import NOTES, PROGRAM, environment, lines_of
 from rewind_tools.script import COMMANDS, LAST
 
 SECONDS_TO_END = 2
+# How often the notes of ./rewind are looked for while the program starts, and how much of them is read.
+SECONDS_BETWEEN, MOST_SAID = 0.5, 1 << 20
 
 
 class Ended(Exception):
@@ -26,25 +32,42 @@ class Ended(Exception):
 
 
 class Session:
-    """The program's process, at the graph's line and after it."""
+    """The program's process, at the graph's line and after it. While it starts, which may take a minute,
+    each note of ./rewind is given to `on_note`."""
 
-    def __init__(self, graph, words=(), version=LAST):
+    def __init__(self, graph, words=(), version=LAST, on_note=None):
         self.graph, self.words, self.version = graph, list(words), version
         self.errors = tempfile.TemporaryFile()
-        pipes = {"stdin": subprocess.PIPE, "stdout": subprocess.PIPE, "stderr": self.errors}
-        self.process = subprocess.Popen(["rewind", *self.words], executable=PROGRAM, **pipes)
-        self.ask({"version": version})
-        self.started = self.ask(graph)
+        how = {"stdin": subprocess.PIPE, "stdout": subprocess.PIPE, "stderr": self.errors}
+        self.process = subprocess.Popen(
+            ["rewind", *self.words], executable=PROGRAM, env=environment(), start_new_session=True, **how
+        )
+        has_started = threading.Event()
+        watching = threading.Thread(target=self.pass_notes, args=[on_note or (lambda it: None), has_started])
+        watching.start()
+        try:
+            self.ask({"version": version})
+            self.started = self.ask(graph)
+        except KeyboardInterrupt:
+            self.kill()
+            raise
+        finally:
+            has_started.set()
+            watching.join()
 
     def ask(self, value):
         return self.ask_all([value])[0]
 
     def ask_all(self, values):
         """The replies to lines, in their order."""
-        text = b"".join(json.dumps(it, separators=(",", ":")).encode() + b"\n" for it in values)
+        return self.ask_texts([json.dumps(it, separators=(",", ":")).encode() for it in values])
+
+    def ask_texts(self, texts):
+        """The replies to lines that are given as bytes, none of them blank, in their order."""
+        text = b"".join(it + b"\n" for it in texts)
         writer = threading.Thread(target=self.write, args=[text], daemon=True)
         writer.start()
-        replies = [self.read() for _ in values]
+        replies = [self.read() for _ in texts]
         writer.join()
         return replies
 
@@ -62,14 +85,38 @@ class Session:
         return json.loads(line)
 
     def said(self):
-        """What the program has written to standard error so far."""
-        self.errors.seek(0)
-        return self.errors.read().decode(errors="replace").strip()
+        """What the program has written to standard error so far, without the notes of ./rewind."""
+        return "\n".join(it for it in self.error_lines() if not it.startswith(NOTES))
+
+    def notes(self):
+        """The lines in which ./rewind speaks of itself: that no answer is proved, if none is."""
+        return [it for it in self.error_lines() if it.startswith(NOTES)]
+
+    def pass_notes(self, on_note, has_started):
+        """Passes the notes on, each once, until the program has started."""
+        passed, is_last = 0, False
+        while not is_last:
+            is_last = has_started.wait(SECONDS_BETWEEN)
+            notes = self.notes()
+            for it in notes[passed:]:
+                on_note(it)
+            passed = len(notes)
+
+    def error_lines(self):
+        # the program writes at the file's own position, which stays as it is
+        said = os.pread(self.errors.fileno(), MOST_SAID, 0)
+        return said.decode(errors="replace").strip().splitlines()
 
     def end_words(self):
         status = self.process.wait()
         how = f"by signal {-status}" if status < 0 else f"with status {status}"
         return f"the program ended {how}" + (f": {self.said()}" if self.said() else "")
+
+    def kill(self):
+        """Ends the program at once, with all that it has started."""
+        with contextlib.suppress(ProcessLookupError):
+            os.killpg(self.process.pid, signal.SIGKILL)
+        self.process.wait()
 
     def close(self):
         """Ends the program and lets go of its pipes."""
@@ -80,10 +127,18 @@ class Session:
         try:
             self.process.wait(SECONDS_TO_END)
         except subprocess.TimeoutExpired:
-            self.process.kill()
-            self.process.wait()
+            self.kill()
         self.process.stdout.close()
         self.errors.close()
+
+
+def write_text(path, text):
+    """Writes a file; a fault names it, also that the disk is full."""
+    try:
+        with open(path, "w", encoding="utf-8") as it:
+            it.write(text)
+    except OSError as fault:
+        raise OSError(fault.errno, fault.strerror, path) from fault
 
 
 def without_comments(script):

@@ -1,27 +1,47 @@
 """Commands as they are typed at the prompt: words and numbers in place of a JSON line.
 
-    line_of("feed 0 words 2 3 next", FORMS)      {"do": "feed", "p": 0, "vertex": "words", "values": [2, 3],
+    line_of("feed 0 words 2 3 next".split())     {"do": "feed", "p": 0, "vertex": "words", "values": [2, 3],
                                                  "next": "next"}
-    line_of("release 0 keep 0 to 3", FORMS)      {"do": "release", "p": 0, "vertex": "keep", "time": [0],
+    line_of("release 0 keep 0 to 3".split())     {"do": "release", "p": 0, "vertex": "keep", "time": [0],
                                                  "to": [3]}
+    wanted(["feed", "0"])                        what may be typed next: [("feed", "vertex")]
 
 Values stand in the order of the grammar's keys. A time is its numbers with commas and no spaces, as 0 or
 0,1; a point is a location and a time; values end at the first word that is no number. NotTyped says what is
 missing or wrong, in words."""
 import shlex
 
-from rewind_tools.script import ATOMS, FORMS, NEXTS, OPTIONAL
+from rewind_tools.script import ATOMS, FORMS, MOST_LITERALS, NEXTS, OPTIONAL
 
 JOINTS = {"and": "all", "or": "any"}
 # The keys that are typed by their own name, with the value after it.
 MARKED = {"release": ["to"], "run": ["only"]}
-# What stands for a kind of value in the form that help shows.
+# What stands for a kind of value in the form that help shows, and under some keys in place of that.
 SHOWN = {
     "small": "P", "whole": "N", "signed": "N", "vertex": "VERTEX", "edge": "EDGE", "place": "LOCATION",
     "time": "TIME",
-    "point": "LOCATION TIME", "points": "LOCATION TIME ..", "values": "VALUE ..",
-    "next": "|".join([*NEXTS, "to N"]), "when": "CONDITION", "flag": "before", "processors": "P ..",
+    "point": "LOCATION TIME", "points": "LOCATION TIME ...", "values": "VALUE ...",
+    "next": "|".join([*NEXTS, "to N"]), "when": "CONDITION", "flag": "before", "processors": "P ...",
+    "joint": "and|or",
 }  # fmt: skip
+KEYS_SHOWN = {"lo": "FROM", "hi": "TO", "workers": "THREADS", "value": "VALUE"}
+# The order in which the values of a condition are typed, and when each holds.
+ATOM_KEYS = {
+    "passed": ["q", "at", "time"],
+    "finished": ["at", "time"],
+    "count": ["at", "time", "at_least"],
+    "view": ["q", "at", "time", "at_least"],
+    "queue": ["from", "to", "at_least"],
+    "sink": ["vertex", "value", "at_least"],
+}
+HOLDS = {
+    "passed": "the view of processor P has passed the location and time",
+    "finished": "nothing is at or before the location and time, on any processor, or ever will be",
+    "count": "at least N records, requests and tokens are there",
+    "view": "the view of processor P counts at least N there",
+    "queue": "at least N changes are on their way from the first processor to the second",
+    "sink": "the sinks of VERTEX have counted VALUE at least N times",
+}
 
 
 class NotTyped(Exception):
@@ -48,15 +68,22 @@ def time_of(word):
 
 
 class Words:
-    """The words of a line, read from the left."""
+    """The words of a line, read from the left; what may follow the last one is kept in `wanted`."""
 
-    def __init__(self, words, of):
-        self.words, self.of = list(words), of
+    def __init__(self, words, of, said=None):
+        self.words, self.of, self.said, self.wanted = list(words), of, said or of, []
+        self.form = usage(self.said)
 
-    def take(self, kind):
+    def may_follow(self, kind):
+        """Notes, if no word is left, that a value of a kind may follow."""
         if not self.words:
-            form = f"{self.of} {usage(self.of)}".rstrip()
-            raise NotTyped(f"{self.of} needs {SHOWN.get(kind, kind)} here; its form is: {form}")
+            self.wanted.append((self.of, kind))
+
+    def take(self, kind, shown=None):
+        if not self.words:
+            self.may_follow(kind)
+            form = f"{self.said} {self.form}".rstrip()
+            raise NotTyped(f"{self.said} needs {shown or SHOWN.get(kind, kind)} here; its form is: {form}")
         return self.words.pop(0)
 
     def while_numbers(self):
@@ -66,84 +93,133 @@ class Words:
             found.append(int(self.words.pop(0)))
         return found
 
-    def value(self, kind):
+    def value(self, kind, key=None):
         """The value of a kind, from the words that it takes."""
-        if kind in ("small", "whole", "signed"):
-            return number(self.take(kind))
-        if kind == "time":
-            return time_of(self.take(kind))
-        if kind == "point":
-            return [self.take("place"), time_of(self.take("time"))]
-        if kind == "points":
-            points = []
-            while self.words:
-                points.append(self.value("point"))
-            return points
-        if kind == "values":
-            return self.while_numbers()
-        if kind == "processors":
-            return [number(self.take(kind)), *self.while_numbers()]
-        if kind == "when":
-            return self.condition()
-        if kind == "next":
-            word = self.take(kind)
-            return {"to": number(self.take("epoch"))} if word == "to" else word
-        if kind == "flag":
-            return self.take(kind) == "before"
-        return self.take(kind)
+        if kind in READERS:
+            return READERS[kind](self)
+        word = self.take(kind, KEYS_SHOWN.get(key))
+        return number(word) if kind in ("small", "whole", "signed") else word
 
-    def atom(self):
-        name = self.take("condition")
+    def points(self):
+        points = []
+        while self.words:
+            points.append(self.value("point"))
+        self.may_follow("place")
+        return points
+
+    def processors(self):
+        found = [number(self.take("processors")), *self.while_numbers()]
+        self.may_follow("processors")
+        return found
+
+    def next(self):
+        word = self.take("next")
+        return {"to": number(self.take("epoch"))} if word == "to" else word
+
+    def literal(self):
+        """An atom or its negation."""
+        name = self.take("when")
         if name == "not":
-            return {"not": self.atom()}
+            return {"not": self.literal()}
         if name not in ATOMS:
             raise NotTyped(f"{name} is no condition; the conditions are {', '.join(ATOMS)}")
-        order = {
-            "count": ["at", "time", "at_least"],
-            "queue": ["from", "to", "at_least"],
-            "sink": ["vertex", "value", "at_least"],
-        }
-        order["view"] = ["q", "at", "time", "at_least"]
-        return {name: {key: self.value(ATOMS[name][key]) for key in order.get(name, ATOMS[name])}}
+        before = self.of, self.said, self.form
+        self.of, self.said, self.form = name, name, atom_usage(name)
+        inner = {key: self.value(ATOMS[name][key], key) for key in ATOM_KEYS[name]}
+        self.of, self.said, self.form = before
+        return {name: inner}
 
     def condition(self):
         """An atom, its negation, or several that all or any are to hold."""
-        literals, joints = [self.atom()], set()
+        literals, joints = [self.literal()], set()
         while self.words and self.words[0] in JOINTS:
             joints.add(JOINTS[self.words.pop(0)])
-            literals.append(self.atom())
+            literals.append(self.literal())
+        self.may_follow("joint")
         if len(joints) > 1:
             raise NotTyped("a condition has either 'and' or 'or' between its parts, not both")
         return {joints.pop(): literals} if joints else literals[0]
 
 
-def usage(word):
-    """What stands after a word, as help shows it."""
+READERS = {
+    "time": lambda words: time_of(words.take("time")),
+    "point": lambda words: [words.value("place"), words.value("time")],
+    "points": Words.points,
+    "values": Words.while_numbers,
+    "processors": Words.processors,
+    "when": Words.condition,
+    "next": Words.next,
+    "flag": lambda words: words.take("flag") == "before",
+}
+
+
+def usage(word, defaults=()):
+    """What stands after a word, as help shows it; what has a default stands in brackets."""
+    if word == "until":
+        return SHOWN["when"]
     if word not in FORMS:
         return ""
     may_lack, marked = OPTIONAL.get(word, {}), MARKED.get(word, [])
-    shown = {key: "VALUE" if key == "value" else SHOWN[kind] for key, kind in FORMS[word].items()}
+    shown = {key: KEYS_SHOWN.get(key, SHOWN[kind]) for key, kind in FORMS[word].items()}
     shown = {key: f"{key} {it}" if key in marked else it for key, it in shown.items()}
-    return " ".join(f"[{it}]" if key in may_lack else it for key, it in shown.items())
+    return " ".join(f"[{it}]" if key in may_lack or key in defaults else it for key, it in shown.items())
 
 
-def line_of(words, defaults=()):
-    """The script's line of typed words; keys that have a default may be left out at the end."""
-    word, *rest = words
-    left, defaults = Words(rest, word), dict(defaults)
+def atom_usage(name):
+    """What stands after the name of a condition."""
+    return " ".join(KEYS_SHOWN.get(it, SHOWN[ATOMS[name][it]]) for it in ATOM_KEYS[name])
+
+
+def condition_help():
+    """The forms of a condition with what each says, one per line."""
+    return [
+        "A CONDITION is one of these:",
+        *("  " + f"{name} {atom_usage(name)}".ljust(28) + said for name, said in HOLDS.items()),
+        f"or 'not' before one of them, or up to {MOST_LITERALS} of them with 'and' or 'or' between.",
+    ]
+
+
+def read_line(left, word, defaults):
+    """The script's line of the words that are left."""
     marked, may_lack = MARKED.get(word, []), OPTIONAL.get(word, {})
     value = {"do": word}
     for key, kind in FORMS[word].items():
         if key in marked:
+            left.may_follow(key)
             if left.words[:1] == [key]:
                 left.take(kind)
                 value[key] = left.value(kind)
         elif left.words and not (key in defaults and left.words[0] in marked):
-            value[key] = left.value(kind)
+            value[key] = left.value(kind, key)
         elif key in defaults:
+            left.may_follow(kind)
             value[key] = defaults[key]
-        elif key not in may_lack:
-            value[key] = left.value(kind)
-    if left.words:
-        raise NotTyped(f"too many words: {' '.join(left.words)}; the form is: {word} {usage(word)}")
+        elif key in may_lack:
+            left.may_follow("place" if kind == "points" else kind)
+        else:
+            value[key] = left.value(kind, key)
     return value
+
+
+def line_of(words, defaults=(), said=None):
+    """The script's line of typed words; keys that have a default may be left out at the end. Faults name the
+    word that was said, if it is another."""
+    word, *rest = words
+    left, defaults = Words(rest, word, said), dict(defaults)
+    value = read_line(left, word, defaults)
+    if left.words:
+        form = f"{left.said} {left.form}"
+        raise NotTyped(f"too many words: {' '.join(left.words)}; the form is: {form}")
+    return value
+
+
+def wanted(words, defaults=()):
+    """What may be typed after the words of a line: pairs of the command or the condition that it belongs to,
+    and the kind of value, or a word that marks a value; nothing after a fault."""
+    word, *rest = words
+    left = Words(rest, word)
+    try:
+        read_line(left, word, dict(defaults))
+    except NotTyped:
+        pass
+    return [] if left.words else left.wanted

@@ -20,6 +20,7 @@ class Wrapped(NamedTuple):
     labels: dict
     curves: dict
     notes: dict
+    bands: list
 
 
 class Row(NamedTuple):
@@ -96,16 +97,17 @@ def pieces_of(points, cuts):
 
 
 def rows_of(cuts, boxes, pieces, width):
-    """The rows: each below the one before, moved to the left."""
+    """The rows: each below the one before, moved to the left; and where each begins and ends."""
     ends = [0.0, *cuts, width]
-    rows, bottom = [], 0.0
+    rows, bands, bottom = [], [], 0.0
     for at, (begin, end) in enumerate(zip(ends, ends[1:])):
         heights = [y for it in boxes if begin <= (it[0] + it[1]) / 2 < end for y in it[2:]]
         heights += [y for row, points in pieces if row == at for _, y in points]
         top, low = min(heights, default=0.0), max(heights, default=0.0)
         rows.append(Row(begin, end, -begin, bottom - top))
+        bands.append((bottom, bottom + low - top))
         bottom += low - top + ROW_GAP
-    return rows, bottom - ROW_GAP
+    return rows, bands
 
 
 def level_start(points):
@@ -131,9 +133,10 @@ def wrapped(drawn, nodes, labels, width):
     cuts = cuts_of(boxes, width) if drawn.width > width else []
     if not cuts:
         curves = {it: [points] for it, points in drawn.paths.items()}
-        return Wrapped(drawn.width, drawn.height, drawn.nodes, drawn.labels, curves, {})
+        bands = [(0.0, drawn.height)]
+        return Wrapped(drawn.width, drawn.height, drawn.nodes, drawn.labels, curves, {}, bands)
     pieces = {it: pieces_of(points, cuts) for it, points in drawn.paths.items()}
-    rows, height = rows_of(cuts, boxes, [it for found in pieces.values() for it in found], drawn.width)
+    rows, bands = rows_of(cuts, boxes, [it for found in pieces.values() for it in found], drawn.width)
 
     def row_of(point):
         return sum(cut <= point[0] for cut in cuts)
@@ -143,9 +146,10 @@ def wrapped(drawn, nodes, labels, width):
 
     return Wrapped(
         round(max(it.end - it.begin for it in rows), 1),
-        round(height, 1),
+        round(bands[-1][1], 1),
         {it: moved(point) for it, point in drawn.nodes.items()},
         {it: moved(point) for it, point in drawn.labels.items()},
         {it: [list(map(rows[at].move, points)) for at, points in found] for it, found in pieces.items()},
         {it: notes_of(found, rows, row_of(drawn.labels[it])) for it, found in pieces.items()},
+        bands,
     )

@@ -10,7 +10,7 @@ use nd_examples::{
     DISTINCT, LINE, Told, change, graph_of, item, len, move_token, paths_of, point, pop, push,
     reach, set, set_item, step_of, time, unpush, values_of, view,
 };
-use nd_graph::Graph;
+use nd_graph::{Graph, Op};
 use nd_mesh::Mesh;
 use nd_paths::Paths;
 use nd_processor::{Processor, ValueAt};
@@ -58,15 +58,23 @@ fn view_tells<A: Allocator + Copy>(paths: &Paths<A>, view: &View<A>) -> Option<b
     )
 }
 
+fn held_tells<A: Allocator + Copy>(heap: &Heap, alloc: A, paths: &Paths<A>) -> Option<bool> {
+    let entries = change(alloc, paths.graph(), &[("a", 0, 3), ("az", 0, -1)])?;
+    let held = view(alloc, paths, &entries)?;
+    Some(unasked!(heap: view_tells(paths, &held)?))
+}
+
+/// Returns whether a view of -1 at a has an empty frontier.
+fn less_tells<A: Allocator + Copy>(heap: &Heap, alloc: A, paths: &Paths<A>) -> Option<bool> {
+    let entry = change(alloc, paths.graph(), &[("a", 0, -1)])?;
+    let less = view(alloc, paths, &entry)?;
+    let frontier = unasked!(heap: less.frontier(alloc, paths).ok()?);
+    Some(frontier.len() == 0)
+}
+
 fn views_tell<A: Allocator + Copy>(heap: &Heap, alloc: A, json: Global) -> Option<bool> {
     let paths = paths_of(json, alloc, LINE)?;
-    let entries = change(alloc, paths.graph(), &[("a", 0, 3), ("az", 0, -1)])?;
-    let held = view(alloc, &paths, &entries)?;
-    let is_told = unasked!(heap: view_tells(&paths, &held)?);
-    let entry = change(alloc, paths.graph(), &[("a", 0, -1)])?;
-    let less = view(alloc, &paths, &entry)?;
-    let frontier = unasked!(heap: less.frontier(alloc, &paths).ok()?);
-    Some(is_told && frontier.len() == 0)
+    Some(held_tells(heap, alloc, &paths)? && less_tells(heap, alloc, &paths)?)
 }
 
 /// Gives items other numbers, from item 0 on, then removes them, and returns how many are left.
@@ -88,6 +96,19 @@ fn vertices_tell<A: Allocator + Copy>(heap: &Heap, alloc: A) -> Option<bool> {
     let time = time(&[0])?;
     let left = unasked!(heap: left_of(&mut state, &time, 100)?);
     Some(left == 0)
+}
+
+/// Returns whether the items that an effect takes out are removed, and the one that another adds.
+fn edits_tell<A: Allocator + Copy>(heap: &Heap, alloc: A) -> Option<bool> {
+    let time = time(&[0])?;
+    let mut full = many(alloc, 12)?;
+    let removes = full.on_notice(alloc, Op::Distinct, &time).ok()?;
+    let is_removed = unasked!(heap: full.commit(&removes).is_ok());
+    let mut state = VertexState::new(alloc);
+    let adds = state.on_record(alloc, Op::Distinct, &time, 9).ok()?;
+    state.commit(&adds).ok()?;
+    let is_undone = unasked!(heap: state.revert(&adds).is_ok());
+    Some(is_removed && is_undone)
 }
 
 /// Returns whether two queues from processor 1, each with the same change twice, return it at both
@@ -120,7 +141,11 @@ fn adds<A: Allocator + Copy>(processor: &mut Processor<A>, key: &ValueAt) -> Opt
 }
 
 /// Returns a processor with a record, a request, an item, a count of a sink and two unsent entries.
-fn holding<A: Allocator + Copy>(alloc: A, graph: &Graph<A>, key: &ValueAt) -> Option<Processor<A>> {
+pub fn holding<A: Allocator + Copy>(
+    alloc: A,
+    graph: &Graph<A>,
+    key: &ValueAt,
+) -> Option<Processor<A>> {
     let mut processor = Processor::start(alloc, graph).ok()?;
     adds(&mut processor, key)?;
     processor.add_unsent(&point(graph, "z", &[0])?, 2).ok()?;
@@ -161,6 +186,8 @@ fn gives_up<A: Allocator + Copy>(
     processor.take_sink(2, 7, 2);
     processor.drop_request(&key.point);
     set_item(processor, None)?.ok()?;
+    move_token(processor, None).ok()?;
+    move_token(processor, Some(0)).ok()?;
     Some(processor.first_record().is_none() && processor.unsent().len() == 1)
 }
 
@@ -199,6 +226,7 @@ fn calls_that_take_none(rt: HostRuntime) {
     assert!(rt; changes_tell(&heap, &heap, json) == Some(true));
     assert!(rt; views_tell(&heap, &heap, json) == Some(true));
     assert!(rt; vertices_tell(&heap, &heap) == Some(true));
+    assert!(rt; edits_tell(&heap, &heap) == Some(true));
     assert!(rt; queues_tell(&heap, &heap, json) == Some(true));
     assert!(rt; processors_tell(&heap, &heap, json) == Some(true));
     assert!(rt; heap.live() == 0);

@@ -8,7 +8,7 @@ use nd_testing::{Refusing, unasked};
 use std::alloc::{Allocator, Global};
 
 /// Executes a step, undoes it and executes it again.
-fn go<A: Allocator + Copy>(cluster: &mut Cluster<A>, step: &Step<A>) -> Option<()> {
+pub fn go<A: Allocator + Copy>(cluster: &mut Cluster<A>, step: &Step<A>) -> Option<()> {
     let record = cluster.plan(step).ok()?;
     cluster.commit(&record).ok()?;
     cluster.back(&record).ok()?;

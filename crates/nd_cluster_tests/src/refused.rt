@@ -1,160 +1,104 @@
-//! Each request for memory of a call refused in turn: the call returns out of memory and leaves its values unchanged,
-//! until it meets no refused request and succeeds.
+//! Each request for memory of the parts of a cluster refused in turn: the call that meets the refusal returns out of
+//! memory. What else it leaves and may return is in its clauses.
 
 ghost use Rattle.nd_vertex.specs.Edits.{CanEdit};
+ghost use Rattle.nd_view.specs.Kept.{IsFor};
 
-use nd_delta::{Delta, DeltaFault, LargeDelta};
+use crate::allocates_nothing::holding;
+use nd_delta::{Delta, LargeDelta};
 use nd_examples::{
-    DISTINCT, LINE, LOOP, change, graph_of, len, move_token, paths_of, point, push, set, set_item,
-    take_all, time, unpop, view,
+    DISTINCT, LINE, LOOP, change, graph_of, paths_of, point, push, set, take_all, time, unpop, view,
 };
-use nd_graph::{Graph, GraphDraft, GraphFault, Op};
-use nd_mesh::{Mesh, PushFault};
-use nd_paths::{PathFault, Paths};
-use nd_processor::{CountFault, Processor, ValueAt};
-use nd_testing::{Refusing, in_turn, met};
-use nd_time::NoMemory;
-use nd_vertex::{Effect, VertexFault, VertexState};
+use nd_graph::{Graph, GraphDraft, Op};
+use nd_mesh::Mesh;
+use nd_paths::{Paths, Pointstamp};
+use nd_processor::{Processor, ValueAt};
+use nd_testing::{Refusing, in_turn};
+use nd_vertex::{Effect, VertexState};
+use nd_view::View;
 use serde_json::Value;
-use std::alloc::{AllocError, Allocator, Global};
+use std::alloc::{Allocator, Global};
 
 /// The allocator of these tests.
 pub type Heap = Refusing<Global>;
 
-/// A call that takes memory for all or for some of its arguments.
+/// What takes memory.
 #[derive(Drop)]
-enum Call {
-    ReadDraft,
-    ReadDraftV4,
-    CheckDraft,
-    CheckDraftV1,
-    CopyGraph,
-    MakePaths,
-    CopyPaths,
-    AddAtNew,
-    AddAtOld,
-    AddChanges,
-    SubtractChanges,
-    TakePartOfChange,
-    CopyChange,
-    CombineLarge,
-    ApplyToView,
-    ApplyManyToView,
-    UnapplyFromView,
-    ListFrontier,
-    CopyView,
-    MakeMesh,
-    PushToAll,
-    PutBack,
-    CopyMesh,
-    ActOnRecord,
-    ActOnNotice,
-    SetItem,
-    CommitNewItems,
-    CommitNoItems,
-    RevertToItems,
-    RevertToNoItems,
-    CopyVertex,
-    StartProcessor,
-    CopyProcessor,
-    ListTokens,
-    AddRecords,
-    AddRequest,
-    ReturnToken,
-    SetItemOfProcessor,
-    AddToSink,
-    AddUnsent,
-    PutPart,
+enum Part {
+    Graphs,
+    Paths,
+    Changes,
+    LargeChanges,
+    Views,
+    LargeViews,
+    Queues,
+    Vertices,
+    FullVertices,
+    Processors,
+    Parts,
 }
 
-/// Rows of calls of these names.
-macro_rules! calls {
-    ($($name:ident)*) => { [$(Call::$name,)*] };
-}
+static PARTS: [Part; 11] = [
+    Part::Graphs,
+    Part::Paths,
+    Part::Changes,
+    Part::LargeChanges,
+    Part::Views,
+    Part::LargeViews,
+    Part::Queues,
+    Part::Vertices,
+    Part::FullVertices,
+    Part::Processors,
+    Part::Parts,
+];
 
-/// The calls that ask for memory.
-static CALLS: [Call; 37] = calls! {
-    ReadDraft ReadDraftV4 CheckDraft CheckDraftV1 CopyGraph MakePaths CopyPaths AddAtNew
-    AddChanges SubtractChanges TakePartOfChange CopyChange CombineLarge ApplyToView
-    ApplyManyToView UnapplyFromView ListFrontier CopyView MakeMesh PushToAll PutBack CopyMesh
-    ActOnRecord ActOnNotice SetItem CommitNewItems RevertToItems CopyVertex StartProcessor
-    CopyProcessor ListTokens AddRecords AddRequest SetItemOfProcessor AddToSink AddUnsent
-    PutPart
-};
-
-/// Calls that ask for none, on values with room for what they add.
-static FREE: [Call; 4] = calls! { AddAtOld CommitNoItems RevertToNoItems ReturnToken };
-
-/// Returns whether a call on graphs met the refused request.
-fn graphs<A: Allocator + Copy>(
-    heap: &Heap,
-    alloc: A,
-    json: Global,
-    call: &Call,
-    n: u64,
-) -> Option<bool> {
+/// Reads and checks a graph in each version.
+fn graphs<A: Allocator + Copy>(alloc: A, json: Global) -> Option<()> {
     let value = Value::from_str(json, LOOP).ok()?;
+    let draft = GraphDraft::from_value_v4(alloc, &value).ok()?;
+    draft.check(alloc).ok()?;
     let draft = GraphDraft::from_value(alloc, &value).ok()?;
-    match call {
-        Call::ReadDraft => {
-            met!(heap, n: GraphDraft::from_value(alloc, &value); GraphFault::Memory, true)
-        }
-        Call::ReadDraftV4 => {
-            met!(heap, n: GraphDraft::from_value_v4(alloc, &value); GraphFault::Memory, true)
-        }
-        Call::CheckDraft => met!(heap, n: draft.check(alloc); GraphFault::Memory, true),
-        _ => met!(heap, n: draft.check_v1(alloc); GraphFault::Memory, true),
-    }
+    draft.check_v1(alloc).ok()?;
+    Some(())
 }
 
-/// Does the same for a call on paths.
-fn paths<A: Allocator + Copy>(
-    heap: &Heap,
-    alloc: A,
-    json: Global,
-    call: &Call,
-    n: u64,
-) -> Option<bool> {
+/// Copies a graph and its paths.
+fn paths<A: Allocator + Copy>(alloc: A, json: Global) -> Option<()> {
     let paths = paths_of(json, alloc, LOOP)?;
-    match call {
-        Call::CopyGraph => met!(heap, n: paths.graph().copy(alloc); AllocError, true),
-        Call::MakePaths => {
-            met!(heap, n: Paths::of(alloc, paths.graph()); PathFault::Memory, true)
-        }
-        _ => met!(heap, n: paths.copy(alloc); AllocError, true),
-    }
+    paths.graph().copy(alloc).ok()?;
+    paths.copy(alloc).ok()?;
+    Some(())
 }
 
-/// Does the same for a call on changes.
-fn changes<A: Allocator + Copy>(
-    heap: &Heap,
+/// Combines two changes, takes a part of one, and adds to its copy, which has room for no more entries.
+fn combine<A: Allocator + Copy>(
     alloc: A,
-    graph: &Graph<A>,
-    call: &Call,
-    n: u64,
-) -> Option<bool> {
-    let (a, az) = (point(graph, "a", &[0])?, point(graph, "az", &[0])?);
-    let whole = change(alloc, graph, &[("a", 0, 1), ("z", 0, 1)])?;
-    // a copy has room for no more entries
-    let mut one = whole.copy(alloc).ok()?;
+    one: &Delta<A>,
+    other: &Delta<A>,
+    az: &Pointstamp,
+) -> Option<()> {
+    one.plus(alloc, other).ok()?;
+    one.minus(alloc, other).ok()?;
+    other.part(alloc, &[az.copy()]).ok()?;
+    one.copy(alloc).ok()?.add(az, 1).ok()
+}
+
+fn changes<A: Allocator + Copy>(alloc: A, graph: &Graph<A>) -> Option<()> {
+    let one = change(alloc, graph, &[("a", 0, 1), ("z", 0, 1)])?;
     let other = change(alloc, graph, &[("az", 0, 1)])?;
-    match call {
-        Call::AddAtNew => { met!(heap, n: one.add(&az, 1); DeltaFault::Memory, one.len() == 2) }
-        Call::AddAtOld => met!(heap, n: one.add(&a, 1); DeltaFault::Memory, one.len() == 2),
-        Call::AddChanges => met!(heap, n: one.plus(alloc, &other); DeltaFault::Memory, true),
-        Call::SubtractChanges => met!(heap, n: one.minus(alloc, &other); DeltaFault::Memory, true),
-        Call::TakePartOfChange => met!(heap, n: one.part(alloc, &[a]); AllocError, true),
-        Call::CombineLarge => {
-            let mut large = LargeDelta::new(alloc);
-            large.add(&a, 1).ok()?;
-            met!(heap, n: large.combine(alloc, &other, false); DeltaFault::Memory, true)
-        }
-        _ => met!(heap, n: one.copy(alloc); AllocError, true),
-    }
+    combine(alloc, &one, &other, &point(graph, "az", &[0])?)
+}
+
+fn large_changes<A: Allocator + Copy>(alloc: A, graph: &Graph<A>) -> Option<()> {
+    let other = change(alloc, graph, &[("az", 0, 1)])?;
+    let mut large = LargeDelta::new(alloc);
+    large.add(&point(graph, "a", &[0])?, 1).ok()?;
+    large.combine(alloc, &other, false).ok()?;
+    Some(())
 }
 
 /// Returns a change of more entries than are added to a view one by one.
-fn large_change<A: Allocator + Copy>(alloc: A, graph: &Graph<A>) -> Option<Delta<A>> {
+fn many_entries<A: Allocator + Copy>(alloc: A, graph: &Graph<A>) -> Option<Delta<A>> {
     let mut made = Delta::new(alloc);
     for epoch in 0..201 {
         made.add(&point(graph, "z", &[epoch])?, 1).ok()?;
@@ -162,65 +106,46 @@ fn large_change<A: Allocator + Copy>(alloc: A, graph: &Graph<A>) -> Option<Delta
     Some(made)
 }
 
-/// Does the same for a call on views.
-fn views<A: Allocator + Copy>(
-    heap: &Heap,
+/// Applies a change to a view and undoes it, and copies the view and its frontier.
+fn change_view<A: Allocator + Copy>(
     alloc: A,
-    json: Global,
-    call: &Call,
-    n: u64,
-) -> Option<bool> {
-    let paths = paths_of(json, alloc, LINE)?;
-    let entries = [
-        ("a", 0, -2),
-        ("z", 0, 1),
-        ("z", 1, 1),
-        ("z", 2, 1),
-        ("az", 0, -1),
-        ("az", 1, 1),
-        ("az", 2, 1),
-    ];
-    let news = change(alloc, paths.graph(), &entries)?;
-    let a = point(paths.graph(), "a", &[0])?;
-    let olds = change(alloc, paths.graph(), &[("a", 0, 1)])?;
-    let mut view = view(alloc, &paths, &olds)?;
-    match call {
-        Call::ApplyToView => met!(heap, n: view.apply(&paths, &news); DeltaFault::Memory,
-            view.counts().len() == 1 && view.kept(&a) == Some(0)),
-        Call::ApplyManyToView => {
-            let large = large_change(alloc, paths.graph())?;
-            met!(heap, n: view.apply(&paths, &large); DeltaFault::Memory,
-                view.counts().len() == 1 && view.kept(&a) == Some(0))
-        }
-        Call::UnapplyFromView => met!(heap, n: view.unapply(&paths, &news); DeltaFault::Memory,
-            view.counts().len() == 1 && view.kept(&a) == Some(0)),
-        Call::ListFrontier => met!(heap, n: view.frontier(alloc, &paths); AllocError, true),
-        _ => met!(heap, n: view.copy(alloc); AllocError, true),
-    }
+    paths: &Paths<A>,
+    view: &mut View<A>,
+    change: &Delta<A>,
+) -> Option<()>
+    requires { IsFor paths.now view.old }
+{
+    view.unapply(paths, change).ok()?;
+    view.apply(paths, change).ok()?;
+    view.apply(paths, change).ok()?;
+    view.frontier(alloc, paths).ok()?;
+    view.copy(alloc).ok()?;
+    Some(())
 }
 
-/// Does the same for a call on queues.
-fn queues<A: Allocator + Copy>(
-    heap: &Heap,
-    alloc: A,
-    change: Delta<A>,
-    call: &Call,
-    n: u64,
-) -> Option<bool> {
+fn views<A: Allocator + Copy>(alloc: A, paths: &Paths<A>) -> Option<()> {
+    let few = change(
+        alloc,
+        paths.graph(),
+        &[("a", 0, -2), ("z", 1, 1), ("az", 2, 1)],
+    )?;
+    let mut view = view(alloc, paths, &few)?;
+    change_view(alloc, paths, &mut view, &few)
+}
+
+fn large_views<A: Allocator + Copy>(alloc: A, paths: &Paths<A>) -> Option<()> {
+    let many = many_entries(alloc, paths.graph())?;
+    view(alloc, paths, &many)?;
+    Some(())
+}
+
+fn queues<A: Allocator + Copy>(alloc: A, graph: &Graph<A>) -> Option<()> {
+    let change = change(alloc, graph, &[("a", 0, 1), ("z", 0, 1)])?;
     let mut mesh = Mesh::new(alloc, 2).ok()?;
-    match call {
-        Call::MakeMesh => met!(heap, n: Mesh::new(alloc, 2); AllocError, true),
-        Call::PushToAll => met!(heap, n: push(&mut mesh, 0, &change)?; PushFault::Memory,
-            (len(&mesh, 0, 0), len(&mesh, 0, 1)) == (Some(0), Some(0)) && mesh.is_vacant()),
-        Call::PutBack => {
-            met!(heap, n: unpop(&mut mesh, 0, 1, change)?; PushFault::Memory,
-                len(&mesh, 0, 1) == Some(0) && mesh.is_vacant())
-        }
-        _ => {
-            push(&mut mesh, 1, &change)?.ok()?;
-            met!(heap, n: mesh.copy(alloc); AllocError, !mesh.is_vacant())
-        }
-    }
+    push(&mut mesh, 0, &change)?.ok()?;
+    unpop(&mut mesh, 1, 0, change)?.ok()?;
+    mesh.copy(alloc).ok()?;
+    Some(())
 }
 
 /// Returns the state of a vertex with the items below `count` at epoch 0; 12 are more than one node of a tree holds.
@@ -233,192 +158,82 @@ pub fn many<A: Allocator + Copy>(alloc: A, count: i64) -> Option<VertexState<A>>
     Some(state)
 }
 
-/// Does the same for the edits of an effect, applied or undone. If that takes memory, there is no item before it.
-fn edits<A: Allocator + Copy>(
-    heap: &Heap,
-    alloc: A,
-    state: &mut VertexState<A>,
-    effect: &Effect<A>,
-    call: &Call,
-    n: u64,
-) -> Option<bool>
+/// Applies the edits of an effect, and undoes them in a copy.
+fn edit<A: Allocator + Copy>(alloc: A, state: &mut VertexState<A>, effect: &Effect<A>) -> Option<()>
     requires { CanEdit state.old effect.now.items.items }
 {
-    match call {
-        Call::CommitNewItems | Call::CommitNoItems => {
-            met!(heap, n: state.commit(effect); AllocError, state.entries().next().is_none())
-        }
-        _ => {
-            state.commit(effect).ok()?;
-            let mut made = state.copy(alloc).ok()?;
-            met!(heap, n: made.revert(effect); AllocError, made.entries().next().is_none())
-        }
-    }
+    state.commit(effect).ok()?;
+    state.copy(alloc).ok()?.revert(effect).ok()
 }
 
-/// Does the same for a call on a vertex without items.
-fn vertices<A: Allocator + Copy>(heap: &Heap, alloc: A, call: &Call, n: u64) -> Option<bool> {
-    let time = time(&[0])?;
+/// Has a vertex act on a record, which adds an item.
+fn vertices<A: Allocator + Copy>(alloc: A) -> Option<()> {
     let mut state = VertexState::new(alloc);
-    if let Call::ActOnRecord = call {
-        return met!(heap, n: state.on_record(alloc, Op::Distinct, &time, 9);
-            VertexFault::Memory, true);
-    }
-    if let Call::SetItem = call {
-        return met!(heap, n: set(&mut state, &time, 9, Some(1))?; AllocError,
-            state.entries().next().is_none());
-    }
-    let effect = state.on_record(alloc, Op::Distinct, &time, 9).ok()?;
-    edits(heap, alloc, &mut state, &effect, call, n)
+    let effect = state.on_record(alloc, Op::Distinct, &time(&[0])?, 9).ok()?;
+    edit(alloc, &mut state, &effect)
 }
 
-/// Does the same for a call on a vertex with items.
-fn full_vertices<A: Allocator + Copy>(heap: &Heap, alloc: A, call: &Call, n: u64) -> Option<bool> {
-    let time = time(&[0])?;
+/// Has a vertex act on a notification, which removes its items.
+fn full_vertices<A: Allocator + Copy>(alloc: A) -> Option<()> {
     let mut state = many(alloc, 12)?;
-    if let Call::ActOnNotice = call {
-        return met!(heap, n: state.on_notice(alloc, Op::Distinct, &time);
-            VertexFault::Memory, true);
-    }
-    if let Call::CopyVertex = call {
-        return met!(heap, n: state.copy(alloc); AllocError, true);
-    }
-    let effect = state.on_notice(alloc, Op::Distinct, &time).ok()?;
-    edits(heap, alloc, &mut state, &effect, call, n)
+    let effect = state.on_notice(alloc, Op::Distinct, &time(&[0])?).ok()?;
+    edit(alloc, &mut state, &effect)
 }
 
-/// Does the same for a call on a complete processor.
-fn processors<A: Allocator + Copy>(
-    heap: &Heap,
-    alloc: A,
-    graph: &Graph<A>,
-    call: &Call,
-    n: u64,
-) -> Option<bool> {
-    let mut processor = Processor::start(alloc, graph).ok()?;
-    match call {
-        Call::StartProcessor => met!(heap, n: Processor::start(alloc, graph); AllocError, true),
-        Call::CopyProcessor => met!(heap, n: processor.copy(alloc); AllocError, true),
-        Call::ListTokens => met!(heap, n: processor.token_points(alloc); NoMemory, true),
-        Call::ReturnToken => {
-            move_token(&mut processor, None).ok()?;
-            met!(heap, n: move_token(&mut processor, Some(0)); AllocError, true)
-        }
-        _ => met!(heap, n: set_item(&mut processor, Some(1))?; AllocError,
-            processor.first_record().is_none()),
-    }
-}
-
-/// Does the same for a call that puts a record, a request, a sink's count or an unsent entry into a processor.
-fn additions<A: Allocator + Copy>(
-    heap: &Heap,
-    alloc: A,
-    graph: &Graph<A>,
-    call: &Call,
-    n: u64,
-) -> Option<bool> {
-    let mut processor = Processor::start(alloc, graph).ok()?;
+/// Copies a processor to which something of each kind is added, and the points of its tokens.
+fn processors<A: Allocator + Copy>(alloc: A, graph: &Graph<A>) -> Option<()> {
     let point = point(graph, "ad", &[0])?;
-    match call {
-        Call::AddRecords => {
-            let key = ValueAt { point, value: 7 };
-            met!(heap, n: processor.add_records(&key, 1); CountFault::Memory,
-                processor.first_record().is_none())
-        }
-        Call::AddRequest => met!(heap, n: processor.add_request(&point); AllocError,
-            processor.first_request().is_none()),
-        Call::AddToSink => met!(heap, n: processor.add_sink(2, 7, 1); CountFault::Memory,
-            processor.sink_count(2, 7) == 0),
-        _ => met!(heap, n: processor.add_unsent(&point, 1); DeltaFault::Memory,
-            processor.unsent().len() == 0),
-    }
+    let processor = holding(alloc, graph, &ValueAt { point, value: 7 })?;
+    processor.token_points(alloc).ok()?;
+    processor.copy(alloc).ok()?;
+    Some(())
 }
 
-/// Does the same for all that is unsent, removed and put back.
-fn parts<A: Allocator + Copy>(
-    heap: &Heap,
-    alloc: A,
-    processor: &mut Processor<A>,
-    n: u64,
-) -> Option<bool> {
-    let part = take_all(processor, alloc)?;
-    let Ok(mut left) = processor.copy(alloc) else {
-        return None;
-    };
-    met!(heap, n: left.put_part(&part); AllocError, left.unsent().len() == 0)
-}
-
-/// Returns a processor with so many unsent entries that they do not fit one node of a tree.
-fn unsent<A: Allocator + Copy>(alloc: A, graph: &Graph<A>) -> Option<Processor<A>> {
+/// Removes what is unsent, more entries than one node of a tree holds, and puts it back in a copy.
+fn parts<A: Allocator + Copy>(alloc: A, graph: &Graph<A>) -> Option<()> {
     let mut processor = Processor::start(alloc, graph).ok()?;
     for epoch in 0..40 {
         processor.add_unsent(&point(graph, "z", &[epoch])?, 2).ok()?;
     }
-    Some(processor)
+    put_back(alloc, &mut processor)
 }
 
-/// Returns whether a call met the refused request. Returns `None` if its answer, or what it left, is wrong.
-fn meets<A: Allocator + Copy>(
-    heap: &Heap,
-    alloc: A,
-    json: Global,
-    call: &Call,
-    n: u64,
-) -> Option<bool> {
-    match call {
-        Call::ReadDraft | Call::ReadDraftV4 | Call::CheckDraft | Call::CheckDraftV1 => {
-            graphs(heap, alloc, json, call, n)
-        }
-        Call::CopyGraph | Call::MakePaths | Call::CopyPaths => paths(heap, alloc, json, call, n),
-        Call::AddAtNew
-        | Call::AddAtOld
-        | Call::AddChanges
-        | Call::SubtractChanges
-        | Call::TakePartOfChange
-        | Call::CopyChange
-        | Call::CombineLarge => changes(heap, alloc, &graph_of(json, alloc, LINE)?, call, n),
-        Call::ApplyToView
-        | Call::ApplyManyToView
-        | Call::UnapplyFromView
-        | Call::ListFrontier
-        | Call::CopyView => views(heap, alloc, json, call, n),
-        Call::MakeMesh | Call::PushToAll | Call::PutBack | Call::CopyMesh => {
-            let graph = graph_of(json, alloc, LINE)?;
-            let change = change(alloc, &graph, &[("a", 0, 1), ("z", 0, 1)])?;
-            queues(heap, alloc, change, call, n)
-        }
-        Call::ActOnRecord | Call::SetItem | Call::CommitNewItems | Call::RevertToNoItems => {
-            vertices(heap, alloc, call, n)
-        }
-        Call::ActOnNotice | Call::CopyVertex | Call::CommitNoItems | Call::RevertToItems => {
-            full_vertices(heap, alloc, call, n)
-        }
-        Call::AddRecords | Call::AddRequest | Call::AddToSink | Call::AddUnsent => {
-            additions(heap, alloc, &graph_of(json, alloc, DISTINCT)?, call, n)
-        }
-        Call::PutPart => {
-            let graph = graph_of(json, alloc, DISTINCT)?;
-            parts(heap, alloc, &mut unsent(alloc, &graph)?, n)
-        }
-        _ => processors(heap, alloc, &graph_of(json, alloc, DISTINCT)?, call, n),
+fn put_back<A: Allocator + Copy>(alloc: A, processor: &mut Processor<A>) -> Option<()> {
+    let part = take_all(processor, alloc)?;
+    let Ok(mut left) = processor.copy(alloc) else {
+        return None;
+    };
+    left.put_part(&part).ok()
+}
+
+/// Makes the calls on a part: `None` if one of them runs out of memory.
+fn ask<A: Allocator + Copy>(alloc: A, json: Global, part: &Part) -> Option<()> {
+    match part {
+        Part::Graphs => graphs(alloc, json),
+        Part::Paths => paths(alloc, json),
+        Part::Changes => changes(alloc, &graph_of(json, alloc, LINE)?),
+        Part::LargeChanges => large_changes(alloc, &graph_of(json, alloc, LINE)?),
+        Part::Views => views(alloc, &paths_of(json, alloc, LINE)?),
+        Part::LargeViews => large_views(alloc, &paths_of(json, alloc, LINE)?),
+        Part::Queues => queues(alloc, &graph_of(json, alloc, LINE)?),
+        Part::Vertices => vertices(alloc),
+        Part::FullVertices => full_vertices(alloc),
+        Part::Processors => processors(alloc, &graph_of(json, alloc, DISTINCT)?),
+        Part::Parts => parts(alloc, &graph_of(json, alloc, DISTINCT)?),
     }
 }
 
-/// Returns how many requests of a call were refused before it met none.
-fn refused<A: Allocator + Copy>(heap: &Heap, alloc: A, json: Global, call: &Call) -> Option<u64> {
-    in_turn!(n: meets(heap, alloc, json, call, n))
+/// Returns how many requests of these calls were refused before they met none.
+fn refused<A: Allocator + Copy>(heap: &Heap, alloc: A, json: Global, part: &Part) -> Option<u64> {
+    in_turn!(heap: ask(alloc, json, part))
 }
 
 #[test]
 fn each_request_refused(rt: HostRuntime) {
     let heap = Refusing::new(rt.alloc());
-    for (i, call) in CALLS.iter().enumerate() {
-        let count = refused(&heap, &heap, rt.alloc(), call);
+    for (i, part) in PARTS.iter().enumerate() {
+        let count = refused(&heap, &heap, rt.alloc(), part);
         assert!(rt; matches!(count, Some(n) if n > 0), "in row {i}");
         assert!(rt; heap.live() == 0, "in row {i}");
-    }
-    for (i, call) in FREE.iter().enumerate() {
-        let count = refused(&heap, &heap, rt.alloc(), call);
-        assert!(rt; count == Some(0), "in row {i} of those that ask for none");
     }
 }

@@ -1,9 +1,10 @@
 -- Changes put in order from the front: what is known about the first i, one more, and all.
-use Rattle.std.proofs.Common.{◌≡◌, ◌≢◌, ◌<◌, ◌≤◌, ◌+◌, ℕ, pos, Bool, true, false, ◌&&◌, List, length, get_or, refl, sym, ap, subst, ◌∙◌, inl, inr, arith}
+use Rattle.std.proofs.Common.{◌≡◌, ◌≢◌, ◌<◌, ◌≤◌, ◌+◌, ℕ, zero, suc, pos, Bool, true, false, ◌&&◌, ◌||◌, nat_eq, List, length, get_or, refl, sym, ap, subst, ◌∙◌, inl, inr, arith}
 use Rattle.std.specs.Prelude.{◌↔◌, IsTrue}
 use Rattle.std.specs.List as edits
 use Rattle.std.specs.List.Sorted.{IsPermutation}
 use Rattle.std.proofs.lemmas.Bool.{cases_eq}
+use Rattle.std.proofs.lemmas.Bool.Decides.{nat_tests}
 use Rattle.std.proofs.lemmas.List.{get_or_default}
 use Rattle.std.proofs.lemmas.List.Edits.{Swapped, swapped_from_swap}
 use Rattle.std.proofs.lemmas.List.Sorted.{IsPermutation-refl, IsPermutation-trans, length_permutation}
@@ -46,6 +47,14 @@ none_yet ps all = record {
   counts_stay = none_below (CountStays ps) all;
   entries_stay = none_below (EntryStays ps) all;
 }
+
+-- after i changes: whether the first change leaves an integer that is not 0, false before any
+pub record IsSeenFirst (ps : List ProcessorState) (all : List Change) (i : ℕ) (first : Bool) : Type 0 where
+  pub none : i ≡ 0 → first ≡ false
+  pub known : (d : Change) → 0 < i → IsTrue first ↔ (after ps (get_or all 0 d) ≢ pos 0)
+
+pub unseen : (ps : List ProcessorState) (all : List Change) → IsSeenFirst ps all 0 false
+unseen ps all = record { none = λ _. refl; known = λ d lt. absurd (omega (arith, lt)) }
 
 -- ---- one more
 
@@ -150,3 +159,23 @@ module _ {ps : List ProcessorState} {all cs : List Change} {turn i : ℕ} {count
 
   pub entry_fails : counts ≡ true → entries ≡ false → StayFails ps all DeltaFull
   entry_fails e f = (all_few e, λ each. (let t = (each_below (EntryStays ps) entries h.entries_stay).1 each in absurd (cc (t, f))))
+
+-- one more change is read, which may be the first
+pub see_more : (ps : List ProcessorState) (all cs : List Change) (turn i : ℕ) (counts entries first : Bool) → IsPutInOrder ps all cs turn i counts entries → IsSeenFirst ps all i first
+    → i < length all → (e : Change) (b : Bool) → (IsTrue b ↔ (after ps (get_or cs i e) ≢ pos 0)) → IsSeenFirst ps all (i + 1) (first || (nat_eq i 0 && b))
+see_more ps all cs turn zero counts entries first h seen lt e b reads =
+    let whole : (first || (true && b)) ≡ b = ap (λ x. x || (true && b)) (seen.none refl) in
+    record {
+      none = λ z. absurd (omega (arith, z));
+      known = λ d some.
+          let here : get_or cs 0 e ≡ get_or all 0 d = h.rest 0 e (omega arith) ∙ get_or_default all 0 e d lt in
+          rw whole (subst (λ x. IsTrue b ↔ (after ps x ≢ pos 0)) here reads);
+    }
+see_more ps all cs turn (suc i) counts entries first h seen lt e b reads =
+    let later : nat_eq (suc i) 0 ≡ false = grind (arith, nat_tests) in
+    let same : (first || (nat_eq (suc i) 0 && b)) ≡ first = ap (λ t. first || (t && b)) later ∙ or_false first in
+    record { none = λ z. absurd (omega (arith, z)); known = λ d some. subst (λ x. IsTrue x ↔ (after ps (get_or all 0 d) ≢ pos 0)) (sym same) (seen.known d (omega arith)) }
+  where
+    or_false : (x : Bool) → (x || false) ≡ x
+    or_false true = refl
+    or_false false = refl

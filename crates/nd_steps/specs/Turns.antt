@@ -1,5 +1,5 @@
 -- The order in which changes are applied: first those after which the integer at their place is not 0, then the others.
-use Rattle.std.specs.Prelude.{◌≡◌, ◌≢◌, ◌<◌, ◌≤◌, ℕ, pos, List, length}
+use Rattle.std.specs.Prelude.{◌≡◌, ◌≢◌, ◌<◌, ◌≤◌, ◌↔◌, ℕ, pos, Bool, IsTrue, List, length}
 use Rattle.std.specs.List.Sorted.{IsPermutation}
 use Rattle.std.proofs.Common.{get_or}
 use Rattle.nd_processor.specs.State.{ProcessorState}
@@ -22,3 +22,7 @@ pub record IsInOrder (processors : List ProcessorState) (all cs : List Change) :
   pub turn : ℕ
   pub leaves : (k : ℕ) (d : Change) → k < length cs → k < turn → after processors (get_or cs k d) ≢ pos 0
   pub goes : (k : ℕ) (d : Change) → k < length cs → turn ≤ k → after processors (get_or cs k d) ≡ pos 0
+
+-- b says whether the integer at the place of the first change of cs is not 0 after that change
+abbrev pub FirstLeaves : List ProcessorState → List Change → Bool → Type 0
+FirstLeaves processors cs b = (d : Change) → 0 < length cs → IsTrue b ↔ (after processors (get_or cs 0 d) ≢ pos 0)

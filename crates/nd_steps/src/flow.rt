@@ -5,7 +5,6 @@ ghost use Rattle.nd_steps.specs.Flows.{arriving, come_changes, flow_changes, tol
 
 use crate::come::Come;
 use crate::order::put_in_order;
-use crate::reading::reading_of;
 use crate::{Change, Slot, record_at};
 use arrayvec::ArrayVec;
 use nd_processor::{Processor, SinkKey, ValueAt};
@@ -60,9 +59,9 @@ fn push_arrivals(list: &mut ArrayVec<Change, MOST>, come: &Come, p: u32, gone: &
 }
 
 impl Flow {
-    // Lists the changes of the take of `gone` by processor `p`, in order.
-    fn changes(&self, p: u32, gone: &ValueAt) -> ArrayVec<Change, MOST>
-        ensures { result.items ≡ flow_changes p gone.now self.now }
+    // Lists the changes of the take of `gone` by processor `p`, in order. The key goes into the last change.
+    fn changes(&self, p: u32, gone: ValueAt) -> ArrayVec<Change, MOST>
+        ensures { result.items ≡ flow_changes p gone self.now }
     {
         let unsent = Change {
             p,
@@ -71,15 +70,15 @@ impl Flow {
         };
         let mut list = ArrayVec::new();
         if self.late {
-            push_arrivals(&mut list, &self.come, p, gone);
+            push_arrivals(&mut list, &self.come, p, &gone);
             list.push(unsent);
         } else {
             list.push(unsent);
-            push_arrivals(&mut list, &self.come, p, gone);
+            push_arrivals(&mut list, &self.come, p, &gone);
         }
         list.push(Change {
             p,
-            slot: Slot::Records(gone.copy()),
+            slot: Slot::Records(gone),
             n: -1,
         });
         list
@@ -95,7 +94,7 @@ impl Flow {
                 edge,
                 time,
                 value,
-            } => self.changes(*p, &record_at(*edge, time, *value)),
+            } => self.changes(*p, record_at(*edge, time, *value)),
             Step::Feed { .. } | Step::Notice { .. } | Step::Release { .. } => ArrayVec::new(),
             Step::Broadcast { .. } | Step::Receive { .. } => ArrayVec::new(),
         }
@@ -116,8 +115,7 @@ pub fn ordered_flow<A: Allocator + Copy>(
     ensures refused { IfErr result (PassLimit processors.now (come_changes p gone.now come)) }
 {
     let early = Flow { come, late: false };
-    let mut changes = early.changes(p, gone);
-    let late = !reading_of(processors, &changes[0]).leaves;
-    put_in_order(processors, &mut changes)?;
+    let mut changes = early.changes(p, gone.copy());
+    let late = !put_in_order(processors, &mut changes)?;
     Ok(Flow { come, late })
 }

@@ -4,6 +4,7 @@ ghost use Rattle.std.specs.Ordering.{eq_by_cmp};
 ghost use Rattle.nd_time.specs.Limits.{max_locations};
 ghost use Rattle.nd_graph.specs.Graph.{op_at, action_of};
 ghost use Rattle.nd_paths.specs.Point.{point_cmp};
+ghost use Rattle.nd_steps.specs.Flows.{come_key};
 ghost use Rattle.nd_steps.specs.Onward.{leaving};
 ghost use Rattle.nd_steps.specs.Performers.{coming, ComesFor, PassesOn, FlowLeads, IsPlainTake};
 
@@ -59,6 +60,18 @@ fn is_at(a: &Pointstamp, b: &Pointstamp) -> bool
     a.cmp(b).is_eq()
 }
 
+// Returns whether what arrives for `gone` has the pointstamp of `gone`. A record on another edge needs no key.
+fn comes_back(come: &Come, gone: &ValueAt) -> bool
+    ensures { result ≡ eq_by_cmp point_cmp (come_key gone.now come.now).point gone.now.point }
+{
+    if let Come::Record { edge, .. } = come {
+        if *edge as usize != gone.point.location {
+            return false;
+        }
+    }
+    is_at(&come.key(gone).point, &gone.point)
+}
+
 // Returns the record of an emission on an edge.
 fn record_on<B: Allocator>(
     by: &Performer<'_, B>,
@@ -90,7 +103,7 @@ fn come_by<B: Allocator>(by: &Performer<'_, B>, gone: &ValueAt, emission: &Emiss
     let edge = edge_at(first_edge(by.graph), i);
     let _ = emission.time.depth();
     let come = record_on(by, emission, action, edge, route);
-    if is_at(&come.key(gone).point, &gone.point) {
+    if comes_back(&come, gone) {
         return None;
     }
     Some(come)

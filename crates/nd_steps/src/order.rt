@@ -2,7 +2,7 @@
 ghost use Rattle.std.specs.Prelude.{IfOk, IfErr, OnOk};
 ghost use Rattle.nd_steps.specs.Plans.{Each};
 ghost use Rattle.nd_steps.specs.Ordered.{StayWithin, StayFails, CanReach, AreOrdered, PassLimit};
-ghost use Rattle.nd_steps.specs.Turns.{IsReadable, IsInOrder};
+ghost use Rattle.nd_steps.specs.Turns.{IsReadable, IsInOrder, FirstLeaves};
 
 use crate::Change;
 use crate::reading::reading_of;
@@ -11,23 +11,26 @@ use nd_protocol::Refusal;
 use std::alloc::Allocator;
 
 // Puts the changes after which the integer at their place is not 0 before the others, and tests the limits: that of counts before
-// that of entries. Looks each place up once.
+// that of entries. Looks each place up once. Returns whether the integer at the place of the first change is not 0 afterwards.
 pub(crate) fn put_in_order<A: Allocator + Copy>(
     processors: &[Processor<A>],
     changes: &mut [Change],
-) -> Result<(), Refusal>
+) -> Result<bool, Refusal>
     requires { Each (IsReadable processors.now) changes.old }
     ensures order { IsInOrder processors.now changes.old changes.new }
+    ensures first { IfOk result (FirstLeaves processors.now changes.old) }
     ensures within { OnOk result (StayWithin processors.now changes.old) }
     ensures refused { IfErr result (StayFails processors.now changes.old) }
 {
     let mut counts_stay = true;
     let mut entries_stay = true;
+    let mut first = false;
     let mut turn = 0;
     for i in 0..changes.len() {
         let reading = reading_of(processors, &changes[i]);
         counts_stay &= reading.count_stays;
         entries_stay &= reading.entry_stays;
+        first |= (i == 0) & reading.leaves;
         if reading.leaves {
             changes.swap(turn, i);
             turn += 1;
@@ -39,7 +42,7 @@ pub(crate) fn put_in_order<A: Allocator + Copy>(
     if !entries_stay {
         return Err(Refusal::DeltaFull);
     }
-    Ok(())
+    Ok(first)
 }
 
 /// Returns the changes in the order in which they are applied, so that everything is added before anything is removed; or the

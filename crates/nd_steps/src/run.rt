@@ -1,6 +1,6 @@
 //! Changes applied to the parts of a cluster, one after the other, and undone.
-ghost use Rattle.std.specs.Prelude.{◌≡◌, OnOk, OnErr};
-ghost use Rattle.nd_steps.specs.Changes.{inverse, made, applied, Fits, FindsNothing, IsRunnable};
+ghost use Rattle.std.specs.Prelude.{◌≡◌, ◌<◌, length, OnOk, OnErr};
+ghost use Rattle.nd_steps.specs.Changes.{inverse, made, applied, change_at, Fits, FindsNothing, IsRunnable};
 ghost use Rattle.nd_steps.specs.Records.{RunsTo, CameFrom, IsBackAt};
 
 use crate::making::make_in;
@@ -18,6 +18,20 @@ impl<A: Allocator + Copy> Parts<A> {
     {
         let processor = &mut self.processors[change.p as usize];
         make_in(processor, &change.slot, change.n)
+    }
+
+    // Applies change `i`. A change in a list is not copied.
+    fn make_at(&mut self, changes: &Told<'_>, i: usize) -> Result<(), AllocError>
+        requires there { i < length changes.now }
+        requires fits { Fits self.old (change_at changes.now i) }
+        ensures ok { OnOk result (self.new ≡ made self.old (change_at changes.now i)) }
+        ensures err { OnErr result (self.new ≡ self.old) }
+        ensures absent { OnErr result (FindsNothing self.old (change_at changes.now i)) }
+    {
+        match changes.listed(i) {
+            Some(change) => self.make(change),
+            None => self.make(&changes.get(i)),
+        }
     }
 
     // Undoes a change: applies its inverse. It takes no memory if the integer at the place is not 0.
@@ -39,8 +53,7 @@ impl<A: Allocator + Copy> Parts<A> {
     {
         let count = changes.len();
         for i in 0..count {
-            let change = changes.get(i);
-            let Ok(()) = self.make(&change) else {
+            let Ok(()) = self.make_at(changes, i) else {
                 for j in (0..i).rev() {
                     let past = changes.get(j);
                     let Ok(()) = self.undo(&past) else {

@@ -1,5 +1,5 @@
 //! The changes of a feed, a take, a notice or a release, by their indices.
-ghost use Rattle.std.specs.Prelude.{◌≡◌, ◌<◌, ◌++◌, IsTrue, length, map, slice_index_or};
+ghost use Rattle.std.specs.Prelude.{◌≡◌, ◌<◌, ◌++◌, IfSome, IsTrue, length, map, slice_index_or};
 ghost use Rattle.nd_steps.specs.Fed.{arrived};
 
 use crate::{Change, FedAt};
@@ -55,6 +55,18 @@ impl<'a> Told<'a> {
             return self.at.arrived(self.values[i]);
         }
         self.rest[i - count].copy()
+    }
+
+    // Returns change `i`, unless a value arrives by it.
+    pub(crate) fn listed(&self, i: usize) -> Option<&'a Change>
+        requires { i < length self.now }
+        ensures { IfSome result (λ c. c.now ≡ slice_index_or self.now i c.now) }
+    {
+        let count = self.values.len();
+        if i < count {
+            return None;
+        }
+        Some(&self.rest[i - count])
     }
 
     // Returns whether these are the changes.

@@ -6,5 +6,5 @@ mod requests;
 mod signal;
 
 pub use allocator::Refusing;
-pub use requests::{MANY, was_refused};
+pub use requests::MANY;
 pub use signal::Sign;

@@ -1,52 +1,25 @@
 //! Calls whose requests for memory are refused, one after the other or all.
-ghost use Rattle.std.specs.Prelude.{◌≡◌, ◌↔◌, IfSome, IsNone, IsSome, IsTrue};
 
-/// More than the requests of any call.
-pub const MANY: u64 = 1000;
+/// More than the requests of any calls that are refused memory in turn.
+pub const MANY: u64 = 2000;
 
-/// Returns whether a call met the refused request, or `None` if the call answered wrongly. It must succeed if it did not meet the
-/// request; otherwise it must return out of memory and leave its values unchanged.
-pub fn was_refused<E: PartialEq + Drop>(
-    refused: bool,
-    fault: Option<E>,
-    want: E,
-    is_as_before: bool,
-) -> Option<bool>
-    ensures met { IfSome result (λ met. met ≡ refused) }
-    ensures answered { IsSome result → (IsTrue refused ↔ IsSome fault) }
-    ensures unchanged { IsSome result → IsTrue refused → IsTrue is_as_before }
-    ensures right { (IsTrue refused → ⊥) → IsNone fault → IsSome result }
-{
-    let is_right = match fault {
-        None => !refused,
-        Some(fault) => refused && is_as_before && fault == want,
-    };
-    if is_right { Some(refused) } else { None }
-}
-
-/// Makes a call while the request with a given number is refused, and returns whether the call met that request.
-///
-/// Returns `None` if the call answered wrongly or left wrong values.
-#[macro_export]
-macro_rules! met {
-    ($heap:ident, $n:ident: $call:expr; $want:expr, $is_as_before:expr) => {{
-        $heap.refuse($n);
-        let fault = $call.err();
-        let refused = $heap.relent($n);
-        $crate::was_refused(refused, fault, $want, $is_as_before)
-    }};
-}
-
-/// Refuses one request of a call after the other: the body of a function that returns how many were refused before the call
+/// Refuses one request of some calls after the other: the body of a function that returns how many were refused before the calls
 /// met none.
 ///
-/// `$meets` makes the call on fresh values with the request of number `$n` refused, and says whether it met that one.
+/// `$answer` makes the calls on new values: `None` if one of them ran out of memory. One must do so exactly if a request was
+/// refused; otherwise the function returns `None`.
 #[macro_export]
 macro_rules! in_turn {
-    ($n:ident: $meets:expr) => {{
-        for $n in 0..$crate::MANY {
-            if !$meets? {
-                return Some($n);
+    ($heap:ident: $answer:expr) => {{
+        for n in 0..$crate::MANY {
+            $heap.refuse(n);
+            let is_done = $answer.is_some();
+            let met = $heap.relent(n);
+            if met == is_done {
+                return None;
+            }
+            if is_done {
+                return Some(n);
             }
         }
         None

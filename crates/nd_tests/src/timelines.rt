@@ -3,9 +3,8 @@
 
 mod checkpoints;
 mod conditions;
-mod memory;
+pub mod memory;
 mod succeeds;
-mod walks;
 
 use nd_breaks::Breaks;
 use nd_protocol::Processors;

@@ -1,7 +1,7 @@
 //! Timestamps of a timely dataflow: an epoch and the counters of the loops around a location.
 #![tactic(auto)]
 
-ghost use Rattle.std.specs.Prelude.{◌≡◌, ◌≤◌, ◌<◌, ◌↔◌, IsTrue, IsSome, IfSome, IsOk, IfOk, length};
+ghost use Rattle.std.specs.Prelude.{◌≡◌, ◌≤◌, ◌<◌, ◌↔◌, IsTrue, IsSome, IfSome, IsOk, IfOk, length, take};
 ghost use Rattle.nd_time.specs.Time.{Time, IsAtOrBefore, ingress_of, egress_of, feedback_of, last_of};
 ghost use Rattle.nd_time.specs.Limits.{max_depth, max_counter};
 ghost use Rattle.nd_time.specs.Listing.{time_cmp};
@@ -34,6 +34,15 @@ pub struct NoMemory;
 pub struct Timestamp {
     epoch: u32,
     counters: ArrayVec<u32, MAX_DEPTH>,
+}
+
+// Returns the first `depth` numbers of an array.
+fn front(array: [u32; MAX_DEPTH], depth: usize) -> ArrayVec<u32, MAX_DEPTH>
+    ensures { result.items ≡ take depth array }
+{
+    let mut counters = ArrayVec::from_array_in((), array);
+    counters.truncate(depth);
+    counters
 }
 
 impl Model for Timestamp {
@@ -83,13 +92,17 @@ impl Timestamp {
     pub fn copy(&self) -> Timestamp
         ensures { result ≡ self.now }
     {
-        // Most times have at most one counter, and those need no copy of a slice.
-        let mut counters = ArrayVec::new();
-        match self.counters() {
-            [] => {}
-            [only] => counters.push(*only),
-            all => return Timestamp::new(self.epoch, all).unwrap(),
-        }
+        // One fixed array per depth. A loop over counters, or a write at an unknown depth, is slower.
+        let counters = match self.counters() {
+            [] => front([0; MAX_DEPTH], 0),
+            [a] => front([*a, 0, 0, 0, 0, 0], 1),
+            [a, b] => front([*a, *b, 0, 0, 0, 0], 2),
+            [a, b, c] => front([*a, *b, *c, 0, 0, 0], 3),
+            [a, b, c, d] => front([*a, *b, *c, *d, 0, 0], 4),
+            [a, b, c, d, e] => front([*a, *b, *c, *d, *e, 0], 5),
+            [a, b, c, d, e, f] => front([*a, *b, *c, *d, *e, *f], 6),
+            _ => unreachable!(),
+        };
         Timestamp {
             epoch: self.epoch,
             counters,

@@ -65,11 +65,18 @@ position_of cursor start.Base = 0
 position_of cursor start.Cursor = cursor
 position_of cursor (start.Checkpoint c) = c.now.at
 
+-- of positions that are equally near to position n the cursor is chosen, then the base
+abbrev pub WinsTies : {A : Type 0} → ℕ → ℕ → Start A → Type 0
+WinsTies cursor n start.Base = n < abs_diff cursor n
+WinsTies cursor n start.Cursor = Unit {0}
+WinsTies cursor n (start.Checkpoint c) = (abs_diff c.now.at n < n) × (abs_diff c.now.at n < abs_diff cursor n)
+
 -- neither the base nor the cursor nor a checkpoint is nearer to position n than the position at which the walk begins
 pub record IsNearest {A : Type 0} (cs : List (Checkpoint A)) (at n : ℕ) (s : Start A) : Type 0 where
   pub base : abs_diff (position_of at s) n ≤ n
   pub cursor : abs_diff (position_of at s) n ≤ abs_diff at n
   pub checkpoints : IsNoFarther cs (position_of at s) n
+  pub ties : WinsTies at n s
 
 -- if a walk begins at a checkpoint, it is one of these
 abbrev pub IsAmong : {A : Type 0} → List (Checkpoint A) → Start A → Type 0

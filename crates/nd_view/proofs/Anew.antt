@@ -12,7 +12,7 @@ use Rattle.nd_view.specs.Kept.{IsHeldAt, IsKeptAt, AreKept, IsFor, kept_of}
 use Rattle.nd_view.specs.Counting.{ArePositive}
 use Rattle.nd_map.specs.Counts.{keys_of}
 use Rattle.nd_view.proofs.Early.{IsEarly, among_found}
-use Rattle.nd_view.proofs.Left.{IsLeft, left_all, left_has, left_next, left_rest, left_later}
+use Rattle.nd_view.proofs.Left.{IsLeft, left_all, left_has, left_next, left_rest, left_later, left_apart, left_still}
 use Rattle.nd_view.proofs.Moves.{alike, apart, found_put, found_other, at-elsewhere, size_gone}
 use Rattle.nd_view.proofs.Shifts.{size_grown}
 use Rattle.nd_map.specs.Cases.{not_zero}
@@ -58,6 +58,7 @@ pub record IsPickedUpTo (m : DeltaValue) (left : List (Pointstamp × ℤ)) (es :
   pub entries_left : IsLeft m left
   pub only : (q : Pointstamp) (n : ℕ) → find point_cmp q es ≡ Some n → pos 0 <ℤ at m q
   pub all : (q : Pointstamp) → pos 0 <ℤ at m q → (find point_cmp q es ≢ None) ⊎ (find point_cmp q left ≢ None)
+  pub apart : (q : Pointstamp) → find point_cmp q left ≢ None → find point_cmp q es ≡ None
   pub listed : IsListed point_cmp es
   pub room : length es + length left ≤ size m
 
@@ -67,6 +68,7 @@ module _ (m : DeltaValue) where
     entries_left = left_all m left left_is;
     only = λ q n found. absurd (let none = ap (find point_cmp q) es_is in cc (none, found));
     all = λ q positive. inr (left_has m left left_is q (not_zero (at m q) positive));
+    apart = λ q _. ap (find point_cmp q) es_is;
     listed = subst (IsListed point_cmp) (sym es_is) tt;
     room = let long = ap length left_is in let short = ap length es_is in omega (arith, long, short);
   }
@@ -80,6 +82,7 @@ module _ (m : DeltaValue) where
         | inl stored ↦ inl stored
         | inr later ↦ inr (left_later m e rest h.entries_left q (λ same. never (subst (λ z. pos 0 <ℤ z) (ap (at m) same ∙ sym (left_next m e rest h.entries_left)) positive)) later)
       ];
+      apart = λ q later. h.apart q (left_still m e rest h.entries_left q later);
       listed = h.listed;
       room = let room = h.room in omega (arith, room);
     }
@@ -98,9 +101,17 @@ module _ (m : DeltaValue) where
           | inr later ↦ inr (left_later m e rest h.entries_left q (apart q e.0 other) later)
         ]
       ];
+      apart = λ q later. elim (alike q e.0) [
+        | inl same ↦ absurd (left_apart m e rest h.entries_left q later same)
+        | inr other ↦ ap (find point_cmp q) put_is ∙ found_other q e.0 n es other ∙ h.apart q (left_still m e rest h.entries_left q later)
+      ];
       listed = listed;
       room = let grown = size_grown es fs e.0 n h.listed put_is in let room = h.room in omega (arith, grown, room);
     }
+
+  -- the next entry has no number yet
+  pub picked_fresh : (e : Pointstamp × ℤ) (rest : List (Pointstamp × ℤ)) (es : List (Pointstamp × ℕ)) → IsPickedUpTo m (e ∷ rest) es → find point_cmp e.0 es ≡ None
+  picked_fresh e rest es h = h.apart e.0 (λ none. let found = find-head point_cmp point_total e rest in cc (found, none))
 
   pub picked_all : (left : List (Pointstamp × ℤ)) (es : List (Pointstamp × ℕ)) → left ≡ [] → IsPickedUpTo m left es → ArePositive m es
   picked_all left es none h q = by (find point_cmp q es) refl

@@ -73,7 +73,7 @@ pub frontier_of_zero : (g : Dataflow) (v : Kept) → IsFor g v → (q : Pointsta
 frontier_of_zero g v h q e = frontier_of_none g v.map q (subst (IsKeptAt g v.map q) e (h.each q))
 
 -- ---- what is added and removed again
-kept_none : (g : Dataflow) (m : DeltaValue) (q : Pointstamp) (o : Option ℕ) → IsKeptAt g m q o → (pos 0 <ℤ at m q → ⊥) → o ≡ None
+pub kept_none : (g : Dataflow) (m : DeltaValue) (q : Pointstamp) (o : Option ℕ) → IsKeptAt g m q o → (pos 0 <ℤ at m q → ⊥) → o ≡ None
 kept_none g m q None h never = refl
 kept_none g m q (Some n) h never = absurd (never h.0)
 

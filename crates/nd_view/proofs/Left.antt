@@ -40,6 +40,16 @@ module _ (m : DeltaValue) where
       ];
     }
 
+    -- a point among the rest is another, and among the entries left
+    pub left_apart : (q : Pointstamp) → find point_cmp q rest ≢ None → q ≡ e.0 → ⊥
+    left_apart q later same = later (ap (λ y. find point_cmp y rest) same ∙ absent_in_tail point_cmp e rest h.listed)
+
+    pub left_still : (q : Pointstamp) → find point_cmp q rest ≢ None → find point_cmp q (e ∷ rest) ≢ None
+    left_still q later none = elim (alike q e.0) [
+      | inl same ↦ left_apart q later same
+      | inr other ↦ later (sym (ap (λ b. cond b (Some e.1) (find point_cmp q rest)) other) ∙ none)
+    ]
+
     -- another point is among the rest
     pub left_later : (q : Pointstamp) → (q ≡ e.0 → ⊥) → find point_cmp q (e ∷ rest) ≢ None → find point_cmp q rest ≢ None
     left_later q never some none = elim (alike q e.0) [

@@ -8,7 +8,9 @@ ghost use Rattle.nd_view.specs.Counting.{AreCounted, AreEarlier, ArePositive, Ar
 ghost use Rattle.nd_view.specs.Kept.{AreKept, IsNear, IsFor, kept_of, moved};
 ghost use Rattle.nd_view.specs.Rows.{joined};
 
-use crate::links::{epoch_from, is_epochal, is_outside, is_strictly_before, leads};
+use crate::links::{
+    epoch_from, is_after, is_epochal, is_outside, is_strictly_before, later_from, leads,
+};
 use crate::precursor_counts::PrecursorCounts;
 use nd_delta::LargeDelta;
 use nd_paths::{Paths, Pointstamp};
@@ -31,11 +33,14 @@ fn is_near(first: &Pointstamp, point: &Pointstamp) -> bool
         && is_outside(point)
 }
 
-// Returns the positive entry that is listed before `point`, if it is near.
+// Returns the last positive entry with a smaller epoch than `point`, if it is near.
 fn nearest<'a>(kept: &'a [(Pointstamp, u64)], point: &Pointstamp) -> Option<&'a (Pointstamp, u64)>
     ensures { IfSome result (λ e. Contains kept.now e.now × IsNear e.now.0 point.now) }
 {
-    let after = kept.partition_point(|entry: &(Pointstamp, u64)| -> bool { entry.0 < *point });
+    let epoch = point.time.epoch();
+    let after = kept.partition_point(|entry: &(Pointstamp, u64)| -> bool {
+        entry.0.time.epoch() < epoch
+    });
     if after == 0 {
         return None;
     }
@@ -150,7 +155,7 @@ fn moved_by_one(n: u64, up: bool) -> u64
 /// It takes no memory.
 ///
 /// At each location to which a walk leads it skips the entries with smaller epochs, in time logarithmic in
-/// their number. Outside loops it adjusts each of the others; inside loops it tests each first.
+/// their number. Outside loops it adjusts those with greater epochs; it tests each of the others first.
 pub fn shift<A: Allocator + Copy, B: Allocator>(
     precursor_counts: &mut PrecursorCounts<A>,
     counts: &LargeDelta<A>,
@@ -170,9 +175,10 @@ pub fn shift<A: Allocator + Copy, B: Allocator>(
         if end > 0 && leads(paths, point, &row[end - 1].0) {
             let is_epochal = is_epochal(paths, point, &row[end - 1].0);
             let start = epoch_from(row, point.time.epoch());
+            let later = later_from(row, is_epochal, point.time.epoch());
             for k in start..end {
                 let entry = &precursor_counts.row(r)[k];
-                if is_strictly_before(paths, is_epochal, point, &entry.0) {
+                if is_after(paths, is_epochal, k >= later, point, &entry.0) {
                     let n = moved_by_one(entry.1, up);
                     precursor_counts.put_at(r, k, n);
                 }

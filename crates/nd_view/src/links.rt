@@ -1,10 +1,10 @@
 //! Tests of pointstamps at two locations: what is known of the locations decides most of them.
 
-ghost use Rattle.std.specs.Prelude.{◌≡◌, ◌≢◌, ◌↔◌, ◌≤◌, ◌<◌, [], length, IsTrue};
+ghost use Rattle.std.specs.Prelude.{◌≡◌, ◌≢◌, ◌↔◌, ◌≤◌, ◌<◌, ◌+◌, [], length, IsTrue};
 ghost use Rattle.nd_map.specs.Listed.{IsListed};
 ghost use Rattle.nd_paths.specs.Order.{IsStrictlyBefore};
 ghost use Rattle.nd_paths.specs.Point.{point_cmp};
-ghost use Rattle.nd_view.specs.Links.{IsCut, IsEpochal, IsRun, AreSmaller, AreNotSmaller};
+ghost use Rattle.nd_view.specs.Links.{IsCut, IsEpochal, IsLater, IsRun, AreSmaller, AreNotSmaller};
 
 use nd_paths::{Paths, Pointstamp};
 use std::alloc::Allocator;
@@ -32,7 +32,8 @@ pub fn is_outside(point: &Pointstamp) -> bool
 /// Returns whether epochs alone decide between times outside all loops at the locations of two pointstamps.
 /// They do if both pointstamps have no counters and the first could result in the second.
 pub fn is_epochal<B: Allocator>(paths: &Paths<B>, first: &Pointstamp, second: &Pointstamp) -> bool
-    ensures { IsTrue result → IsEpochal paths.now first.now.location second.now.location }
+    ensures epochal { IsTrue result → IsEpochal paths.now first.now.location second.now.location }
+    ensures outside { IsTrue result → first.now.time.counters ≡ [] }
 {
     is_outside(first) && is_outside(second) && paths.before(first, second)
 }
@@ -67,6 +68,27 @@ pub fn is_strictly_before<B: Allocator>(
     paths.strictly_before(first, second)
 }
 
+/// Returns whether the second pointstamp is strictly after the first. If `is_later`, only the second's
+/// counters are looked at.
+#[inline(always)]
+pub fn is_after<B: Allocator>(
+    paths: &Paths<B>,
+    is_epochal: bool,
+    is_later: bool,
+    first: &Pointstamp,
+    second: &Pointstamp,
+) -> bool
+    requires epochal { IsTrue is_epochal
+        → IsEpochal paths.now first.now.location second.now.location }
+    requires later { IsTrue is_later → IsLater paths.now first.now second.now }
+    ensures { IsTrue result ↔ IsStrictlyBefore paths.now first.now second.now }
+{
+    if is_later && is_outside(second) {
+        return true;
+    }
+    is_strictly_before(paths, is_epochal, first, second)
+}
+
 /// Returns the index of the first entry of a row whose epoch is not less than `epoch`, in time logarithmic
 /// in the number of entries.
 #[inline(always)]
@@ -88,4 +110,19 @@ pub fn epoch_from<V>(row: &[(Pointstamp, V)], epoch: u32) -> usize
         }
     }
     low
+}
+
+/// Returns the index of the first entry of a row whose epoch is greater than `epoch` if `is_epochal`, and
+/// otherwise the number of entries.
+#[inline(always)]
+pub fn later_from<V>(row: &[(Pointstamp, V)], is_epochal: bool, epoch: u32) -> usize
+    requires listed { IsListed point_cmp row.now }
+    requires run { IsRun row.now 0 (length row.now) }
+    ensures epochal { result < length row.now → IsTrue is_epochal }
+    ensures later { AreNotSmaller row.now result (length row.now) (epoch + 1) }
+{
+    if !is_epochal || epoch == u32::MAX {
+        return row.len();
+    }
+    epoch_from(row, epoch + 1)
 }

@@ -150,6 +150,7 @@ impl<A: Allocator + Copy> PrecursorCounts<A> {
     }
 
     /// Returns the entries of a row, which are at one location, in the order of listing.
+    #[inline(always)]
     pub fn row(&self, r: usize) -> &[(Pointstamp, u64)]
         requires { r < length self.now }
         ensures value { result.now ≡ row_of self.now r }
@@ -176,23 +177,26 @@ impl<A: Allocator + Copy> PrecursorCounts<A> {
         &self.frontier
     }
 
-    /// Sets the number of a pointstamp. `most` exceeds the number of entries.
+    /// Sets the number of a pointstamp that has none. `most` exceeds the number of entries.
     pub fn put(&mut self, point: &Pointstamp, n: u64, most: usize) -> Result<(), AllocError>
-        requires { length (joined self.old) < most }
+        requires most { length (joined self.old) < most }
+        requires fresh { find point_cmp point.now (joined self.old) ≡ None }
         ensures ok { OnOk result (joined self.new ≡ put point_cmp point.now n (joined self.old)) }
         ensures err { OnErr result (joined self.new ≡ joined self.old) }
         ensures listed { IsListed point_cmp (joined self.new) }
         ensures was_listed { IsListed point_cmp (joined self.old) }
     {
-        let was_zero = is_zero_at(&self.counts, point);
+        // The entries are in the order of listing.
+        let _ = self.counts.len();
         self.frontier
             .reserve(most.saturating_sub(self.frontier.len()))?;
         self.counts.put(point, n)?;
-        set_right(&self.counts, &mut self.frontier, point, was_zero, n == 0);
+        set_right(&self.counts, &mut self.frontier, point, false, n == 0);
         Ok(())
     }
 
     /// Sets the number of an entry of a row. It takes no memory.
+    #[inline(always)]
     pub fn put_at(&mut self, r: usize, k: usize, n: u64)
         requires row { r < length self.old }
         requires entry { k < length (row_of self.old r) }

@@ -119,6 +119,7 @@ impl<A: Allocator + Copy> Rows<A> {
     }
 
     /// Returns the entries of a row, which are at one location, in the order of listing.
+    #[inline(always)]
     pub fn row(&self, r: usize) -> &[(Pointstamp, u64)]
         requires { r < length self.now }
         ensures value { result.now ≡ row_of self.now r }
@@ -164,6 +165,7 @@ impl<A: Allocator + Copy> Rows<A> {
     }
 
     /// Sets the number of an entry of a row. It takes no memory.
+    #[inline(always)]
     pub fn put_at(&mut self, r: usize, k: usize, n: u64)
         requires row { r < length self.old }
         requires entry { k < length (row_of self.old r) }

@@ -1,6 +1,8 @@
 -- What became of the clients' commands, compared with the log of their session.
-use Rattle.std.proofs.Common.{◌≡◌, ◌∙◌, ◌==◌, ◌⊎◌, inl, inr, ℕ, zero, suc, ◌<◌, ◌≤◌, get_or, List, [], ◌∷◌, ◌++◌, All, length, map, Option, Some, None, Global, Vec, refl, sym, ap, subst, arith, length-append}
-use Rattle.std.specs.Prelude.{filter, option_map, slice_get, slice_index_or, slice_set}
+use Rattle.std.proofs.Common.{◌≡◌, ◌∙◌, ◌==◌, ◌⊎◌, inl, inr, ℕ, zero, suc, ◌<◌, ◌≤◌, false, get_or, List, [], ◌∷◌, ◌++◌, All, length, map, Option, Some, None, Global, Vec, refl, sym, ap, subst, arith, length-append}
+use Rattle.std.specs.List.{list_any}
+use Rattle.std.specs.Prelude.{IsTrue, filter, option_map, slice_get, slice_index_or, slice_set}
+use Rattle.std.proofs.lemmas.Bool.{false≢true}
 use Rattle.std.proofs.lemmas.Option.{slice_get-map, slice_get_within, slice_get_cases}
 use Rattle.std.proofs.lemmas.List.{length-map, map-append}
 use Rattle.std.proofs.lemmas.List.Elements.{All-append}
@@ -8,6 +10,7 @@ use Rattle.serde_json.specs.Data.{Data}
 use Rattle.nd_timeline.specs.declared.command.Command.{Command}
 use Rattle.nd_timeline.specs.Moves.{MachineValue}
 use Rattle.nd_session.specs.Clients.{ClientValue, IsHistory}
+use Rattle.nd_time.specs.Limits.{max_log}
 use Rattle.nd_protocol.specs.Fitting.{IsState}
 use Rattle.nd_protocol.specs.Invariant.{KeepsProtocol}
 use Rattle.nd_session.specs.Close.{IsWhole}
@@ -17,7 +20,7 @@ use Rattle.nd_session.specs.declared.fault.SessionFault.TheVariants.{Memory}
 use Rattle.rewind_clients.specs.Intake.{Commands}
 use Rattle.rewind_clients.specs.Intakes.{lists_of}
 use Rattle.rewind_clients.specs.Served.{AreDone, AreFresh, IsFresh, asked}
-use Rattle.rewind_clients.specs.Told.{Ended, MayEnd, IsServed, Told, Tells, commands_of}
+use Rattle.rewind_clients.specs.Told.{Ended, MayEnd, IsServed, is_full, Told, Tells, commands_of}
 use Rattle.rewind_clients.specs.declared.drive.Done.{Done}
 use Rattle.rewind_clients.specs.declared.drive.Task.{Task}
 
@@ -56,6 +59,11 @@ all-none [] k d lt = absurd (omega (arith, lt))
 all-none (list ∷ commands) zero d lt = may-none list
 all-none (list ∷ commands) (suc k) d lt = all-none commands k d (omega (arith, lt))
 
+none-full : (commands : Commands) → list_any is_full (map none-of commands) ≡ false
+none-full [] = refl
+none-full ([] ∷ commands) = none-full commands
+none-full ((x ∷ xs) ∷ commands) = none-full commands
+
 -- one more client ended in an allowed way
 pub ended-more : (fs gs : List Ended) (f : Ended) → gs ≡ fs ++ f ∷ [] → All MayEnd fs → MayEnd f → All MayEnd gs
 ended-more fs gs f is all here = subst (All MayEnd) (sym is) (All-append MayEnd fs (f ∷ []) all one)
@@ -78,6 +86,7 @@ some-lines opening commands machine begins history = (
       history = history;
       clients = length-map commands none-of;
       ended = all-none commands;
+      full = λ met. absurd (false≢true (sym (none-full commands) ∙ met));
       known = λ i e at. absurd (cc at);
       served = λ c list ended at gone.
           let m = found-map none-of commands c ended gone in
@@ -125,12 +134,13 @@ own-entries log k p h e = ap asked h ∙ ap (λ (n : ℕ). commands_of n log) e
 
 pub driven : (commands : Commands) (ts : List Task) (ds : List Done) (clients : List (ClientValue Global)) (faults : List Ended) (log : List (Receipt Global)) (machine : MachineValue Global) (entered : ℕ)
     → AreFresh commands ts → AreDone ts ds → length ds ≡ length ts → clients ≡ map (λ d. d.client) ds → faults ≡ map (λ d. d.fault) ds
-    → All MayEnd faults → IsWhole log clients entered → IsHistory log machine → (opening : MachineValue Global) → machine.timeline.base ≡ opening.timeline.base
+    → All MayEnd faults → (IsTrue (list_any is_full faults) → length log ≡ max_log) → IsWhole log clients entered → IsHistory log machine → (opening : MachineValue Global) → machine.timeline.base ≡ opening.timeline.base
     → Told opening commands log machine faults
-driven commands ts ds clients faults log machine entered fresh done size are faults_are ended whole history opening begins = record {
+driven commands ts ds clients faults log machine entered fresh done size are faults_are ended full whole history opening begins = record {
   begins = begins;
   history = history;
   ended = ended;
+  full = full;
   clients =
       let a : length faults ≡ length ds = ap length faults_are ∙ length-map ds (λ (d : Done). d.fault) in
       let b : length ts ≡ length commands = fresh.count in

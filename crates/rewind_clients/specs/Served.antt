@@ -1,11 +1,12 @@
 -- What each client did. Only private contracts use these definitions.
-use Rattle.std.specs.Prelude.{◌≡◌, ℕ, List, [], length, map, slice_get, Some}
+use Rattle.std.specs.Prelude.{◌≡◌, ℕ, List, [], length, map, slice_get, Some, IfSome}
 use Rattle.std.specs.declared.alloc.Global.{Global}
 use Rattle.nd_timeline.specs.declared.command.Command.{Command}
+use Rattle.nd_session.specs.Faults.{CommandMayFail}
 use Rattle.nd_session.specs.declared.receipt.Receipt.{Receipt}
 use Rattle.rewind_lines.specs.declared.fault.DebugFault.{DebugFault}
 use Rattle.rewind_lines.specs.declared.fault.DebugFault.TheVariants as fault
-use Rattle.rewind_clients.specs.Told.{IsServed}
+use Rattle.rewind_clients.specs.Told.{IsServed, MayEnd}
 use Rattle.rewind_clients.specs.declared.drive.Done.{Done}
 use Rattle.rewind_clients.specs.declared.drive.Task.{Task}
 
@@ -19,10 +20,18 @@ pub record IsFresh (number : ℕ) (commands : List (Command Global)) (t : Task) 
   pub receipts : t.client.receipts ≡ []
   pub commands_are : t.commands.items ≡ commands
 
--- the client has kept its number, and its first commands were executed
+-- the client has kept its number, its first commands were executed, and an error is one of its next command
 pub record IsDone (t : Task) (d : Done) : Type 0 where
   pub number : d.client.number ≡ t.client.number
   pub served : t.client.receipts ≡ [] → IsServed t.commands.items (asked d.client.receipts) d.fault
+  pub fails : IfSome d.fault (CommandMayFail d.client)
+
+-- one of these clients ended otherwise than a client of a run may
+pub record EndsOtherwise (ds : List Done) : Type 0 where
+  pub place : ℕ
+  pub client : Done
+  pub at : slice_get ds place ≡ Some client
+  pub otherwise : MayEnd client.fault → ⊥
 
 abbrev pub AreDone : List Task → List Done → Type 0
 AreDone ts ds = (i : ℕ) (t : Task) (d : Done) → slice_get ts i ≡ Some t → slice_get ds i ≡ Some d → IsDone t d

@@ -1,8 +1,10 @@
 //! Clients' commands, each client's on a thread of its own.
-ghost use Rattle.std.specs.Prelude.{◌≡◌, [], All, map, IfOk, IfErr, MatchBool, vec_len};
+ghost use Rattle.std.specs.Prelude.{◌≡◌, [], All, map, IfOk, IfErr, IfSome, MatchBool, vec_len};
+ghost use Rattle.std.specs.List.{list_any};
+ghost use Rattle.nd_session.specs.Faults.{CommandMayFail};
 ghost use Rattle.rewind_clients.specs.Intakes.{lists_of};
-ghost use Rattle.rewind_clients.specs.Served.{AreDone, AreFresh, IsDone, IsOfDriving, asked};
-ghost use Rattle.rewind_clients.specs.Told.{IsServed, MayEnd, Told, machine_of};
+ghost use Rattle.rewind_clients.specs.Served.{AreDone, AreFresh, EndsOtherwise, IsDone, IsOfDriving, asked};
+ghost use Rattle.rewind_clients.specs.Told.{is_full as is_full_in, IsServed, MayEnd, Told, machine_of};
 
 use crate::gated::Gated;
 use crate::same::same_graph;
@@ -14,6 +16,9 @@ use std::alloc::{AllocError, Global};
 use std::sync::Wait;
 use std::thread;
 use std::thread::Threads;
+
+/// The most entries of a log.
+const LOG_LIMIT: usize = 1_000_000;
 
 /// A client that has entered, and its commands.
 #[derive(Drop)]
@@ -48,6 +53,7 @@ fn drive<R: Wait, G: Gate>(
     ensures number { result.client.number ≡ client.number }
     ensures served { client.receipts ≡ []
         → IsServed commands.items (asked result.client.receipts) result.fault }
+    ensures fails { IfSome result.fault (CommandMayFail result.client) }
 {
     for command in commands {
         gated.call(&client);
@@ -141,6 +147,20 @@ fn may_end(fault: &Option<SessionFault>) -> bool
     }
 }
 
+// Returns whether the client met a full log.
+fn is_full(fault: &Option<SessionFault>) -> bool
+    ensures { result ≡ is_full_in fault.now }
+{
+    matches!(fault, Some(SessionFault::LogFull))
+}
+
+// Returns whether a client met a full log.
+fn any_full(faults: &[Option<SessionFault>]) -> bool
+    ensures { result ≡ list_any is_full_in faults.now }
+{
+    faults.iter().any(is_full)
+}
+
 // Returns the clients, and why each stopped. If a client stopped with any other error, returns `Close`.
 fn split(
     alloc: Global,
@@ -149,6 +169,7 @@ fn split(
     ensures clients { IfOk result (λ r. r.0.items ≡ map (λ d. d.client) done.items) }
     ensures faults { IfOk result (λ r. r.1.items ≡ map (λ d. d.fault) done.items) }
     ensures ended { IfOk result (λ r. All MayEnd r.1.items) }
+    ensures close { IfErr result (λ e. e ≡ DebugFault.Close → EndsOtherwise done.items) }
     ensures kind { IfErr result IsOfDriving }
 {
     let mut clients = Vec::with_capacity(alloc, done.len())?;
@@ -163,8 +184,8 @@ fn split(
     Ok((clients, faults))
 }
 
-/// Runs all clients' commands on a session of the `State`, and closes it. If the log does not belong to the `State`, returns
-/// `Close`.
+/// Runs all clients' commands on a session of the `State`, and closes it. Returns `Close` if the log does not
+/// belong to the `State`, or is not full though a client met a full log.
 pub fn drive_session<R: Threads + Wait + Sync, G: Gate>(
     rt: &R,
     alloc: Global,
@@ -177,7 +198,7 @@ pub fn drive_session<R: Threads + Wait + Sync, G: Gate>(
         d.log.entries.items (machine_of d.log) d.faults.items) }
     ensures kind { IfErr result IsOfDriving }
 {
-    // A lock's contract does not say what it held at first, so the log is tested afterwards.
+    // A lock's contract does not say what it holds, so the log is tested afterwards.
     let begun = state.timeline().base();
     let graph = begun.graph().copy(alloc)?;
     let count = begun.n();
@@ -187,6 +208,9 @@ pub fn drive_session<R: Threads + Wait + Sync, G: Gate>(
     let (clients, faults) = split(alloc, done)?;
     match session.close(clients) {
         Ok(log) => {
+            if log.entries.len() < LOG_LIMIT && any_full(faults.as_slice()) {
+                return Err(DebugFault::Close);
+            }
             let left = log.timeline.base();
             if left.n() == count && same_graph(left.graph(), &graph) {
                 Ok(Driven { log, faults })

@@ -1,18 +1,18 @@
 //! Whether two graphs are equal.
-ghost use Rattle.std.specs.Prelude.{◌≡◌, IsTrue};
+ghost use Rattle.std.specs.Prelude.{◌≡◌, ◌≢◌, MatchBool};
 
 use nd_graph::{Edge, Graph, Vertex};
 
 // Returns whether two vertices are equal.
 fn same_vertex(one: &Vertex, other: &Vertex) -> bool
-    ensures { IsTrue result → one.now ≡ other.now }
+    ensures { MatchBool result (one.now ≡ other.now) (one.now ≢ other.now) }
 {
     one.name == other.name && one.op == other.op && one.depth == other.depth
 }
 
 // Returns whether two edges are equal.
 fn same_edge(one: &Edge, other: &Edge) -> bool
-    ensures { IsTrue result → one.now ≡ other.now }
+    ensures { MatchBool result (one.now ≡ other.now) (one.now ≢ other.now) }
 {
     one.name == other.name
         && one.from == other.from
@@ -23,7 +23,7 @@ fn same_edge(one: &Edge, other: &Edge) -> bool
 
 // Returns whether two lists of vertices are equal.
 fn same_vertices(one: &[Vertex], other: &[Vertex]) -> bool
-    ensures { IsTrue result → one.now ≡ other.now }
+    ensures { MatchBool result (one.now ≡ other.now) (one.now ≢ other.now) }
 {
     if one.len() != other.len() {
         return false;
@@ -38,7 +38,7 @@ fn same_vertices(one: &[Vertex], other: &[Vertex]) -> bool
 
 // Returns whether two lists of edges are equal.
 fn same_edges(one: &[Edge], other: &[Edge]) -> bool
-    ensures { IsTrue result → one.now ≡ other.now }
+    ensures { MatchBool result (one.now ≡ other.now) (one.now ≢ other.now) }
 {
     if one.len() != other.len() {
         return false;
@@ -53,7 +53,7 @@ fn same_edges(one: &[Edge], other: &[Edge]) -> bool
 
 /// Returns whether two graphs have the same vertices and edges.
 pub fn same_graph(one: &Graph, other: &Graph) -> bool
-    ensures { IsTrue result → one.now ≡ other.now }
+    ensures { MatchBool result (one.now ≡ other.now) (one.now ≢ other.now) }
 {
     same_vertices(one.vertices(), other.vertices()) && same_edges(one.edges(), other.edges())
 }

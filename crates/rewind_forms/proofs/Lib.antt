@@ -5,3 +5,4 @@ pub mod Fits
 pub mod ReasonsLemmas
 pub mod ConditionsLemmas
 pub mod NoFloats
+pub mod ReadInTurn

@@ -7,7 +7,7 @@ use crate::objects::step_value;
 use crate::replies::step_refused;
 use nd_cluster::{Candidate, CandidateList};
 use nd_graph::Graph;
-use nd_json::{Json, JsonList, reply};
+use nd_json::{Json, JsonList, JsonObject};
 use nd_protocol::Refusal;
 use std::alloc::{AllocError, Global};
 
@@ -22,10 +22,16 @@ fn tried(
         j ≡ tried_data step (option_map (step_refused_data graph.now) refusal.now)) }
 {
     match refusal {
-        None => reply!(in alloc; {"step": step}),
+        None => {
+            let object = JsonObject::new(alloc).with("step", step)?;
+            Ok(object.into_json())
+        }
         Some(refusal) => {
             let refused = step_refused(alloc, graph, refusal)?;
-            reply!(in alloc; {"refused": refused, "step": step})
+            let object = JsonObject::new(alloc)
+                .with("refused", refused)?
+                .with("step", step)?;
+            Ok(object.into_json())
         }
     }
 }

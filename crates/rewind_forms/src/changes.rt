@@ -3,14 +3,17 @@ ghost use Rattle.std.specs.Prelude.{◌≡◌, IfOk};
 ghost use Rattle.rewind_forms.specs.Changes.{changed_data, changes_data};
 
 use nd_history::{Changed, Changes};
-use nd_json::{Json, JsonList, reply};
+use nd_json::{Json, JsonList};
 use std::alloc::{AllocError, Allocator, Global};
 
 // Returns one change: the position, and the entry there.
 fn changed_value(alloc: Global, changed: &Changed) -> Result<Json, AllocError>
     ensures reply { IfOk result (λ j. j ≡ changed_data changed.now) }
 {
-    reply!(in alloc; [changed.position, changed.entry])
+    let list = JsonList::new(alloc)
+        .with(Json::natural(changed.position))?
+        .with(Json::integer(changed.entry))?;
+    Ok(list.into_json())
 }
 
 /// Returns all changes, in the order in which they are given: each as its position and the entry there.

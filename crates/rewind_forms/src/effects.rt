@@ -8,7 +8,7 @@ ghost use Rattle.rewind_forms.specs.Effects.{whole_or_null, natural_or_null as n
 
 use nd_cluster::{Altered, Effect, ItemAt};
 use nd_graph::Graph;
-use nd_json::{Json, JsonList, reply};
+use nd_json::{Json, JsonList, JsonObject};
 use nd_paths::Pointstamp;
 use nd_processor::{SinkKey, ValueAt};
 use nd_state_json::{name_value, time_value};
@@ -47,11 +47,14 @@ impl Shown for Altered<ItemAt, Option<i64>> {
     ghost shown = { item_altered };
 
     fn value(&self, alloc: Global, graph: &Graph) -> Result<Json, AllocError> {
-        let time = time_value(alloc, &self.key.key.time)?;
-        let name = name_value(alloc, graph, self.key.vertex)?;
-        let old = integer_or_null(self.old);
-        let new = integer_or_null(self.new);
-        reply!(in alloc; [self.p, name, time, self.key.key.item, old, new])
+        let list = JsonList::new(alloc)
+            .with(Json::natural(u64::from(self.p)))?
+            .with(name_value(alloc, graph, self.key.vertex)?)?
+            .with(time_value(alloc, &self.key.key.time)?)?
+            .with(Json::integer(self.key.key.item))?
+            .with(integer_or_null(self.old))?
+            .with(integer_or_null(self.new))?;
+        Ok(list.into_json())
     }
 }
 
@@ -59,7 +62,12 @@ impl Shown for Altered<u32, usize> {
     ghost shown = { λ g a. queue_altered a };
 
     fn value(&self, alloc: Global, _graph: &Graph) -> Result<Json, AllocError> {
-        reply!(in alloc; [self.p, self.key, self.old as u64, self.new as u64])
+        let list = JsonList::new(alloc)
+            .with(Json::natural(u64::from(self.p)))?
+            .with(Json::natural(u64::from(self.key)))?
+            .with(Json::natural(self.old as u64))?
+            .with(Json::natural(self.new as u64))?;
+        Ok(list.into_json())
     }
 }
 
@@ -67,9 +75,14 @@ impl Shown for Altered<ValueAt, u64> {
     ghost shown = { record_altered };
 
     fn value(&self, alloc: Global, graph: &Graph) -> Result<Json, AllocError> {
-        let time = time_value(alloc, &self.key.point.time)?;
-        let name = name_value(alloc, graph, self.key.point.location)?;
-        reply!(in alloc; [self.p, name, time, self.key.value, self.old, self.new])
+        let list = JsonList::new(alloc)
+            .with(Json::natural(u64::from(self.p)))?
+            .with(name_value(alloc, graph, self.key.point.location)?)?
+            .with(time_value(alloc, &self.key.point.time)?)?
+            .with(Json::integer(self.key.value))?
+            .with(Json::natural(self.old))?
+            .with(Json::natural(self.new))?;
+        Ok(list.into_json())
     }
 }
 
@@ -77,9 +90,13 @@ impl Shown for Altered<Pointstamp, bool> {
     ghost shown = { request_altered };
 
     fn value(&self, alloc: Global, graph: &Graph) -> Result<Json, AllocError> {
-        let time = time_value(alloc, &self.key.time)?;
-        let name = name_value(alloc, graph, self.key.location)?;
-        reply!(in alloc; [self.p, name, time, self.old, self.new])
+        let list = JsonList::new(alloc)
+            .with(Json::natural(u64::from(self.p)))?
+            .with(name_value(alloc, graph, self.key.location)?)?
+            .with(time_value(alloc, &self.key.time)?)?
+            .with(Json::boolean(self.old))?
+            .with(Json::boolean(self.new))?;
+        Ok(list.into_json())
     }
 }
 
@@ -87,8 +104,13 @@ impl Shown for Altered<SinkKey, u64> {
     ghost shown = { sink_altered };
 
     fn value(&self, alloc: Global, graph: &Graph) -> Result<Json, AllocError> {
-        let name = name_value(alloc, graph, self.key.vertex)?;
-        reply!(in alloc; [self.p, name, self.key.value, self.old, self.new])
+        let list = JsonList::new(alloc)
+            .with(Json::natural(u64::from(self.p)))?
+            .with(name_value(alloc, graph, self.key.vertex)?)?
+            .with(Json::integer(self.key.value))?
+            .with(Json::natural(self.old))?
+            .with(Json::natural(self.new))?;
+        Ok(list.into_json())
     }
 }
 
@@ -96,10 +118,12 @@ impl Shown for Altered<usize, Option<u32>> {
     ghost shown = { token_altered };
 
     fn value(&self, alloc: Global, graph: &Graph) -> Result<Json, AllocError> {
-        let name = name_value(alloc, graph, self.key)?;
-        let old = natural_or_null(self.old);
-        let new = natural_or_null(self.new);
-        reply!(in alloc; [self.p, name, old, new])
+        let list = JsonList::new(alloc)
+            .with(Json::natural(u64::from(self.p)))?
+            .with(name_value(alloc, graph, self.key)?)?
+            .with(natural_or_null(self.old))?
+            .with(natural_or_null(self.new))?;
+        Ok(list.into_json())
     }
 }
 
@@ -107,9 +131,13 @@ impl Shown for Altered<Pointstamp, i64> {
     ghost shown = { entry_altered };
 
     fn value(&self, alloc: Global, graph: &Graph) -> Result<Json, AllocError> {
-        let time = time_value(alloc, &self.key.time)?;
-        let name = name_value(alloc, graph, self.key.location)?;
-        reply!(in alloc; [self.p, name, time, self.old, self.new])
+        let list = JsonList::new(alloc)
+            .with(Json::natural(u64::from(self.p)))?
+            .with(name_value(alloc, graph, self.key.location)?)?
+            .with(time_value(alloc, &self.key.time)?)?
+            .with(Json::integer(self.old))?
+            .with(Json::integer(self.new))?;
+        Ok(list.into_json())
     }
 }
 
@@ -151,10 +179,16 @@ fn lists_object(alloc: Global, lists: Lists) -> Result<Json, AllocError>
         unsent,
         views,
     } = lists;
-    reply!(in alloc; {
-        "items": items, "queues": queues, "records": records, "requests": requests,
-        "sinks": sinks, "tokens": tokens, "unsent": unsent, "views": views
-    })
+    let object = JsonObject::new(alloc)
+        .with("items", items)?
+        .with("queues", queues)?
+        .with("records", records)?
+        .with("requests", requests)?
+        .with("sinks", sinks)?
+        .with("tokens", tokens)?
+        .with("unsent", unsent)?
+        .with("views", views)?;
+    Ok(object.into_json())
 }
 
 /// Returns the object of what a step changed, with the names of the graph's locations: eight lists, each element with

@@ -4,7 +4,7 @@ ghost use Rattle.nd_state_json.specs.StateText.{row};
 ghost use Rattle.rewind_forms.specs.Reasons.{held_data};
 
 use nd_graph::Graph;
-use nd_json::{Json, JsonList, reply};
+use nd_json::{Json, JsonList, JsonObject};
 use nd_state_json::name_value;
 use nd_why::Held;
 use std::alloc::{AllocError, Allocator, Global};
@@ -18,13 +18,27 @@ fn one_value<A: Allocator>(
 ) -> Result<Json, AllocError>
     ensures reply { IfOk result (λ j. j ≡ held_data graph.now location one.now) }
 {
-    let name = name_value(alloc, graph, location)?;
     match one {
         Held::Records { p, value, count } => {
-            reply!(in alloc; {"edge": name, "n": *count, "p": *p as u64, "value": *value})
+            let object = JsonObject::new(alloc)
+                .with("edge", name_value(alloc, graph, location)?)?
+                .with("n", Json::natural(*count))?
+                .with("p", Json::natural(*p as u64))?
+                .with("value", Json::integer(*value))?;
+            Ok(object.into_json())
         }
-        Held::Request { p } => reply!(in alloc; {"p": *p as u64, "request": name}),
-        Held::Token { p } => reply!(in alloc; {"p": *p as u64, "token": name}),
+        Held::Request { p } => {
+            let object = JsonObject::new(alloc)
+                .with("p", Json::natural(*p as u64))?
+                .with("request", name_value(alloc, graph, location)?)?;
+            Ok(object.into_json())
+        }
+        Held::Token { p } => {
+            let object = JsonObject::new(alloc)
+                .with("p", Json::natural(*p as u64))?
+                .with("token", name_value(alloc, graph, location)?)?;
+            Ok(object.into_json())
+        }
     }
 }
 

@@ -1,10 +1,10 @@
 //! A step as the object of its command line.
-ghost use Rattle.std.specs.Prelude.{◌≡◌, map, IfOk};
+ghost use Rattle.std.specs.Prelude.{◌≡◌, map, Some, None, IfOk};
 ghost use Rattle.nd_state_json.specs.StateText.{row, point_data};
 ghost use Rattle.rewind_forms.specs.Objects.{next_data, feed_object, take_object, notice_object, release_object, all_object, part_object, receive_object, object_of};
 
 use nd_graph::Graph;
-use nd_json::{Json, JsonList, list_of, reply};
+use nd_json::{Json, JsonList, JsonObject, list_of};
 use nd_paths::Pointstamp;
 use nd_protocol::{Next, Part, Step, Times};
 use nd_state_json::{name_value, point_value, time_value};
@@ -19,7 +19,10 @@ fn next_value(alloc: Global, next: Next) -> Result<Json, AllocError>
         Next::Next => Json::text(alloc, "next"),
         Next::Close => Json::text(alloc, "close"),
         Next::Stay => Json::text(alloc, "stay"),
-        Next::To(epoch) => reply!(in alloc; {"to": epoch}),
+        Next::To(epoch) => {
+            let object = JsonObject::new(alloc).with("to", Json::natural(u64::from(epoch)))?;
+            Ok(object.into_json())
+        }
     }
 }
 
@@ -48,10 +51,13 @@ impl<'g> Objects<'g> {
             j ≡ feed_object self.now.graph.now p vertex values.now next) }
     {
         let alloc = self.alloc;
-        let values = list_of(alloc, values)?;
-        let name = name_value(alloc, self.graph, vertex)?;
-        let next = next_value(alloc, next)?;
-        reply!(in alloc; {"do": "feed", "next": next, "p": p, "values": values, "vertex": name})
+        let object = JsonObject::new(alloc)
+            .with("do", Json::text(alloc, "feed")?)?
+            .with("next", next_value(alloc, next)?)?
+            .with("p", Json::natural(u64::from(p)))?
+            .with("values", list_of(alloc, values)?)?
+            .with("vertex", name_value(alloc, self.graph, vertex)?)?;
+        Ok(object.into_json())
     }
 
     // Returns the object of a take.
@@ -60,9 +66,13 @@ impl<'g> Objects<'g> {
             j ≡ take_object self.now.graph.now p edge time.now value) }
     {
         let alloc = self.alloc;
-        let time = time_value(alloc, time)?;
-        let name = name_value(alloc, self.graph, edge)?;
-        reply!(in alloc; {"do": "take", "edge": name, "p": p, "time": time, "value": value})
+        let object = JsonObject::new(alloc)
+            .with("do", Json::text(alloc, "take")?)?
+            .with("edge", name_value(alloc, self.graph, edge)?)?
+            .with("p", Json::natural(u64::from(p)))?
+            .with("time", time_value(alloc, time)?)?
+            .with("value", Json::integer(value))?;
+        Ok(object.into_json())
     }
 
     // Returns the object of a notice.
@@ -70,9 +80,12 @@ impl<'g> Objects<'g> {
         ensures object { IfOk result (λ j. j ≡ notice_object self.now.graph.now p vertex time.now) }
     {
         let alloc = self.alloc;
-        let time = time_value(alloc, time)?;
-        let name = name_value(alloc, self.graph, vertex)?;
-        reply!(in alloc; {"do": "notice", "p": p, "time": time, "vertex": name})
+        let object = JsonObject::new(alloc)
+            .with("do", Json::text(alloc, "notice")?)?
+            .with("p", Json::natural(u64::from(p)))?
+            .with("time", time_value(alloc, time)?)?
+            .with("vertex", name_value(alloc, self.graph, vertex)?)?;
+        Ok(object.into_json())
     }
 
     // Returns the object of a release, which drops a capability or moves it to a later time.
@@ -81,39 +94,77 @@ impl<'g> Objects<'g> {
             j ≡ release_object self.now.graph.now p vertex times.now.time times.now.to) }
     {
         let alloc = self.alloc;
-        let time = time_value(alloc, &times.time)?;
-        let name = name_value(alloc, self.graph, vertex)?;
         match &times.to {
-            None => reply!(in alloc; {"do": "release", "p": p, "time": time, "vertex": name}),
-            Some(to) => {
-                let to = time_value(alloc, to)?;
-                reply!(in alloc; {
-                    "do": "release", "p": p, "time": time, "to": to, "vertex": name
-                })
-            }
+            None => self.dropped(p, vertex, &times.time),
+            Some(to) => self.moved(p, vertex, &times.time, to),
         }
+    }
+
+    // Returns the object of a release that drops a capability.
+    fn dropped(&self, p: u32, vertex: usize, time: &Timestamp) -> Result<Json, AllocError>
+        ensures object { IfOk result (λ j.
+            j ≡ release_object self.now.graph.now p vertex time.now None) }
+    {
+        let alloc = self.alloc;
+        let object = JsonObject::new(alloc)
+            .with("do", Json::text(alloc, "release")?)?
+            .with("p", Json::natural(u64::from(p)))?
+            .with("time", time_value(alloc, time)?)?
+            .with("vertex", name_value(alloc, self.graph, vertex)?)?;
+        Ok(object.into_json())
+    }
+
+    // Returns the object of a release that moves a capability to a later time.
+    fn moved(
+        &self,
+        p: u32,
+        vertex: usize,
+        time: &Timestamp,
+        to: &Timestamp,
+    ) -> Result<Json, AllocError>
+        ensures object { IfOk result (λ j.
+            j ≡ release_object self.now.graph.now p vertex time.now (Some to.now)) }
+    {
+        let alloc = self.alloc;
+        let object = JsonObject::new(alloc)
+            .with("do", Json::text(alloc, "release")?)?
+            .with("p", Json::natural(u64::from(p)))?
+            .with("time", time_value(alloc, time)?)?
+            .with("to", time_value(alloc, to)?)?
+            .with("vertex", name_value(alloc, self.graph, vertex)?)?;
+        Ok(object.into_json())
     }
 
     // Returns the object of a broadcast of all that is unsent.
     fn broadcast(&self, p: u32) -> Result<Json, AllocError>
         ensures object { IfOk result (λ j. j ≡ all_object p) }
     {
-        reply!(in self.alloc; {"do": "broadcast", "p": p})
+        let object = JsonObject::new(self.alloc)
+            .with("do", Json::text(self.alloc, "broadcast")?)?
+            .with("p", Json::natural(u64::from(p)))?;
+        Ok(object.into_json())
     }
 
     // Returns the object of a broadcast of what is unsent at some pointstamps.
     fn part(&self, p: u32, points: &[Pointstamp]) -> Result<Json, AllocError>
         ensures object { IfOk result (λ j. j ≡ part_object self.now.graph.now p points.now) }
     {
-        let part = points_value(self.alloc, self.graph, points)?;
-        reply!(in self.alloc; {"do": "broadcast", "p": p, "part": part})
+        let object = JsonObject::new(self.alloc)
+            .with("do", Json::text(self.alloc, "broadcast")?)?
+            .with("p", Json::natural(u64::from(p)))?
+            .with("part", points_value(self.alloc, self.graph, points)?)?;
+        Ok(object.into_json())
     }
 
     // Returns the object of a receive.
     fn receive(&self, from: u32, to: u32) -> Result<Json, AllocError>
         ensures object { IfOk result (λ j. j ≡ receive_object from to) }
     {
-        reply!(in self.alloc; {"do": "receive", "from": from, "to": to})
+        let object = JsonObject::new(self.alloc)
+            .with("do", Json::text(self.alloc, "receive")?)?
+            .with("from", Json::natural(u64::from(from)))?
+            .with("to", Json::natural(u64::from(to)))?;
+        Ok(object.into_json())
     }
 }
 

@@ -5,7 +5,7 @@ ghost use Rattle.rewind_forms.specs.Reasons.{reason_members, reason_data, reason
 use crate::held::held_value;
 use crate::unheard::unheard_value;
 use nd_graph::Graph;
-use nd_json::{Json, JsonList, reply};
+use nd_json::{Json, JsonList, JsonObject};
 use nd_state_json::point_value;
 use nd_why::{Reason, Reasons};
 use std::alloc::{AllocError, Allocator, Global};
@@ -20,7 +20,12 @@ fn reason_object(
 ) -> Result<Json, AllocError>
     ensures reply { IfOk result (λ j. j ≡ reason_members held point unheard view) }
 {
-    reply!(in alloc; {"held": held, "point": point, "unheard": unheard, "view": view})
+    let object = JsonObject::new(alloc)
+        .with("held", held)?
+        .with("point", point)?
+        .with("unheard", unheard)?
+        .with("view", view)?;
+    Ok(object.into_json())
 }
 
 // Returns one reason: its pointstamp, all that is held there, the updates of it that were not received, and the

@@ -1,5 +1,6 @@
 //! The reply values.
-ghost use Rattle.std.specs.Prelude.{◌≡◌, Some, IfOk};
+ghost use Rattle.std.specs.Prelude.{◌≡◌, Some, IfOk, codes};
+ghost use Rattle.serde_json.specs.Data.{number, string, unsigned, no_members, member};
 ghost use Rattle.rewind_forms.specs.Replies.{fault as fault_data, location_fault as location_fault_data, graph as graph_data, moved as moved_data, ran as ran_data, stop as stop_data, reply_data};
 ghost use Rattle.rewind_forms.specs.Replies.{point_fault as point_fault_data, fault_at as fault_at_data, step_refused as step_refused_data, refused as refused_data, before as before_data, faulty as faulty_data, line_fault as line_fault_data, count as count_data};
 ghost use Rattle.rewind_forms.specs.Replies.{passed as passed_data, not_passed as not_passed_data, no_processor as no_processor_data, piece_fault as piece_fault_data, found as found_data};
@@ -8,46 +9,67 @@ ghost use Rattle.rewind_forms.specs.Replies.{candidates as candidates_data, effe
 
 use crate::LineFault;
 use nd_graph::Graph;
-use nd_json::{Json, reply};
+use nd_json::{Json, JsonObject, reply};
 use nd_protocol::Refusal;
 use nd_state_json::point_value;
 use nd_time::Code;
 use nd_timeline::{Reply, Stop};
 use std::alloc::{AllocError, Allocator, Global};
 
+// Returns the members of an error: its number and name.
+fn error_of(alloc: Global, code: Code) -> Result<JsonObject, AllocError>
+    ensures { IfOk result (λ o. o ≡ member (codes "code") (number (unsigned code.number))
+        (member (codes "error") (string code.name) no_members)) }
+{
+    JsonObject::new(alloc)
+        .with("code", Json::natural(code.number()))?
+        .with("error", Json::text(alloc, code.name())?)
+}
+
 /// Returns an error's number and name.
 pub fn fault(alloc: Global, code: Code) -> Result<Json, AllocError>
     ensures reply { IfOk result (λ j. j ≡ fault_data code) }
 {
-    reply!(in alloc; {"code": code.number(), "error": code.name()})
+    let object = error_of(alloc, code)?;
+    Ok(object.into_json())
 }
 
 /// Returns an error's number and name, and the location at which it is.
 pub fn location_fault(alloc: Global, code: Code, location: &str) -> Result<Json, AllocError>
     ensures reply { IfOk result (λ j. j ≡ location_fault_data code location.now) }
 {
-    reply!(in alloc; {"code": code.number(), "error": code.name(), "location": location})
+    let object = error_of(alloc, code)?.with("location", Json::text(alloc, location)?)?;
+    Ok(object.into_json())
 }
 
 /// Returns an error's number and name, and the piece of a search that it leaves without a result.
 pub fn piece_fault(alloc: Global, code: Code, piece: u64) -> Result<Json, AllocError>
     ensures reply { IfOk result (λ j. j ≡ piece_fault_data code piece) }
 {
-    reply!(in alloc; {"code": code.number(), "error": code.name(), "piece": piece})
+    let object = error_of(alloc, code)?.with("piece", Json::natural(piece))?;
+    Ok(object.into_json())
 }
 
 /// Returns the reply to a graph: the number of its locations, and of the processors.
 pub fn graph(alloc: Global, locations: u64, processors: u64) -> Result<Json, AllocError>
     ensures reply { IfOk result (λ j. j ≡ graph_data locations processors) }
 {
-    reply!(in alloc; {"locations": locations, "ok": true, "processors": processors})
+    let object = JsonObject::new(alloc)
+        .with("locations", Json::natural(locations))?
+        .with("ok", Json::boolean(true))?
+        .with("processors", Json::natural(processors))?;
+    Ok(object.into_json())
 }
 
 // Returns the reply to a command that moved the cursor: its position, and the number of kept steps.
 fn moved(alloc: Global, at: u64, kept: u64) -> Result<Json, AllocError>
     ensures reply { IfOk result (λ j. j ≡ moved_data at kept) }
 {
-    reply!(in alloc; {"at": at, "kept": kept, "ok": true})
+    let object = JsonObject::new(alloc)
+        .with("at", Json::natural(at))?
+        .with("kept", Json::natural(kept))?
+        .with("ok", Json::boolean(true))?;
+    Ok(object.into_json())
 }
 
 // Returns why a run stopped.
@@ -57,7 +79,10 @@ fn stop(alloc: Global, stop: Stop) -> Result<Json, AllocError>
     match stop {
         Stop::Limit => Json::text(alloc, "limit"),
         Stop::Idle => Json::text(alloc, "idle"),
-        Stop::Break(id) => reply!(in alloc; {"break": u64::from(id)}),
+        Stop::Break(id) => {
+            let object = JsonObject::new(alloc).with("break", Json::natural(u64::from(id)))?;
+            Ok(object.into_json())
+        }
     }
 }
 
@@ -65,14 +90,21 @@ fn stop(alloc: Global, stop: Stop) -> Result<Json, AllocError>
 fn ran(alloc: Global, at: u64, kept: u64, ran: u64, shown: Json) -> Result<Json, AllocError>
     ensures reply { IfOk result (λ j. j ≡ ran_data at kept ran shown) }
 {
-    reply!(in alloc; {"at": at, "kept": kept, "ok": true, "ran": ran, "stop": shown})
+    let object = JsonObject::new(alloc)
+        .with("at", Json::natural(at))?
+        .with("kept", Json::natural(kept))?
+        .with("ok", Json::boolean(true))?
+        .with("ran", Json::natural(ran))?
+        .with("stop", shown)?;
+    Ok(object.into_json())
 }
 
 // Returns the reply to a step that is refused because of a pointstamp.
 fn point_fault(alloc: Global, code: Code, point: Json) -> Result<Json, AllocError>
     ensures reply { IfOk result (λ j. j ≡ point_fault_data code point) }
 {
-    reply!(in alloc; {"code": code.number(), "error": code.name(), "point": point})
+    let object = error_of(alloc, code)?.with("point", point)?;
+    Ok(object.into_json())
 }
 
 // Returns the reply to a step that the cluster refused.
@@ -96,7 +128,11 @@ pub(crate) fn step_refused<A: Allocator>(
 fn fault_at(alloc: Global, code: Code, at: u64) -> Result<Json, AllocError>
     ensures reply { IfOk result (λ j. j ≡ fault_at_data code at) }
 {
-    reply!(in alloc; {"at": at, "code": code.number(), "error": code.name()})
+    let object = JsonObject::new(alloc)
+        .with("at", Json::natural(at))?
+        .with("code", Json::natural(code.number()))?
+        .with("error", Json::text(alloc, code.name())?)?;
+    Ok(object.into_json())
 }
 
 // Returns the reply to a command that was refused.
@@ -133,8 +169,16 @@ pub fn command_reply<A: Allocator>(
             let shown = stop(alloc, *end)?;
             ran(alloc, *at, *kept, *made, shown)
         }
-        Reply::Set { id } => reply!(in alloc; {"id": u64::from(*id), "ok": true}),
-        Reply::Cleared => reply!(in alloc; {"ok": true}),
+        Reply::Set { id } => {
+            let object = JsonObject::new(alloc)
+                .with("id", Json::natural(u64::from(*id)))?
+                .with("ok", Json::boolean(true))?;
+            Ok(object.into_json())
+        }
+        Reply::Cleared => {
+            let object = JsonObject::new(alloc).with("ok", Json::boolean(true))?;
+            Ok(object.into_json())
+        }
         Reply::Refused(refusal) => refused(alloc, graph, refusal),
     }
 }
@@ -143,7 +187,8 @@ pub fn command_reply<A: Allocator>(
 fn faulty(alloc: Global, code: Code, line: u64) -> Result<Json, AllocError>
     ensures reply { IfOk result (λ j. j ≡ faulty_data code line) }
 {
-    reply!(in alloc; {"code": code.number(), "error": code.name(), "line": line})
+    let object = error_of(alloc, code)?.with("line", Json::natural(line))?;
+    Ok(object.into_json())
 }
 
 /// Returns the reply to a faulty line. Its number is counted from 1.
@@ -162,28 +207,41 @@ pub fn line_fault(alloc: Global, fault: LineFault, line: u64) -> Result<Json, Al
 pub fn count(alloc: Global, count: u64) -> Result<Json, AllocError>
     ensures reply { IfOk result (λ j. j ≡ count_data count) }
 {
-    reply!(in alloc; {"count": count, "ok": true})
+    let object = JsonObject::new(alloc)
+        .with("count", Json::natural(count))?
+        .with("ok", Json::boolean(true))?;
+    Ok(object.into_json())
 }
 
 /// Returns the reply to a query whether one pointstamp could result in another.
 pub fn before(alloc: Global, before: bool) -> Result<Json, AllocError>
     ensures reply { IfOk result (λ j. j ≡ before_data before) }
 {
-    reply!(in alloc; {"before": before, "ok": true})
+    let object = JsonObject::new(alloc)
+        .with("before", Json::boolean(before))?
+        .with("ok", Json::boolean(true))?;
+    Ok(object.into_json())
 }
 
 /// Returns the reply to a query for a pointstamp that a view has passed.
 pub fn passed(alloc: Global) -> Result<Json, AllocError>
     ensures reply { IfOk result (λ j. j ≡ passed_data) }
 {
-    reply!(in alloc; {"ok": true, "passed": true})
+    let object = JsonObject::new(alloc)
+        .with("ok", Json::boolean(true))?
+        .with("passed", Json::boolean(true))?;
+    Ok(object.into_json())
 }
 
 /// Returns the reply to a query for a pointstamp that a view has not passed, with the one that stands in the way.
 pub fn not_passed(alloc: Global, point: Json) -> Result<Json, AllocError>
     ensures reply { IfOk result (λ j. j ≡ not_passed_data point) }
 {
-    reply!(in alloc; {"ok": true, "passed": false, "point": point})
+    let object = JsonObject::new(alloc)
+        .with("ok", Json::boolean(true))?
+        .with("passed", Json::boolean(false))?
+        .with("point", point)?;
+    Ok(object.into_json())
 }
 
 /// Returns the reply to a query about a processor that does not exist.
@@ -204,14 +262,20 @@ pub fn found(alloc: Global, least: Option<u64>) -> Result<Json, AllocError>
 pub fn version(alloc: Global, number: u64) -> Result<Json, AllocError>
     ensures reply { IfOk result (λ j. j ≡ version_data number) }
 {
-    reply!(in alloc; {"ok": true, "version": number})
+    let object = JsonObject::new(alloc)
+        .with("ok", Json::boolean(true))?
+        .with("version", Json::natural(number))?;
+    Ok(object.into_json())
 }
 
 /// Returns the reply to a query for one kept step, which the value shows.
 pub fn kept_step(alloc: Global, shown: Json) -> Result<Json, AllocError>
     ensures reply { IfOk result (λ j. j ≡ kept_step_data shown) }
 {
-    reply!(in alloc; {"ok": true, "step": shown})
+    let object = JsonObject::new(alloc)
+        .with("ok", Json::boolean(true))?
+        .with("step", shown)?;
+    Ok(object.into_json())
 }
 
 /// Returns the reply to a query for the changes of a view, which the value shows, and whether there are more than it shows.
@@ -219,9 +283,16 @@ pub fn changed(alloc: Global, shown: Json, more: bool) -> Result<Json, AllocErro
     ensures reply { IfOk result (λ j. j ≡ changed_data shown more) }
 {
     if more {
-        reply!(in alloc; {"changes": shown, "more": true, "ok": true})
+        let object = JsonObject::new(alloc)
+            .with("changes", shown)?
+            .with("more", Json::boolean(true))?
+            .with("ok", Json::boolean(true))?;
+        Ok(object.into_json())
     } else {
-        reply!(in alloc; {"changes": shown, "ok": true})
+        let object = JsonObject::new(alloc)
+            .with("changes", shown)?
+            .with("ok", Json::boolean(true))?;
+        Ok(object.into_json())
     }
 }
 
@@ -230,7 +301,12 @@ pub fn changed(alloc: Global, shown: Json, more: bool) -> Result<Json, AllocErro
 pub fn why(alloc: Global, finished: bool, passed: bool, shown: Json) -> Result<Json, AllocError>
     ensures reply { IfOk result (λ j. j ≡ why_data finished passed shown) }
 {
-    reply!(in alloc; {"finished": finished, "ok": true, "passed": passed, "reasons": shown})
+    let object = JsonObject::new(alloc)
+        .with("finished", Json::boolean(finished))?
+        .with("ok", Json::boolean(true))?
+        .with("passed", Json::boolean(passed))?
+        .with("reasons", shown)?;
+    Ok(object.into_json())
 }
 
 /// Returns the reply to a query for the steps that a run could try, which the value shows, and whether there are more than it
@@ -239,9 +315,16 @@ pub fn candidates(alloc: Global, shown: Json, more: bool) -> Result<Json, AllocE
     ensures reply { IfOk result (λ j. j ≡ candidates_data shown more) }
 {
     if more {
-        reply!(in alloc; {"candidates": shown, "more": true, "ok": true})
+        let object = JsonObject::new(alloc)
+            .with("candidates", shown)?
+            .with("more", Json::boolean(true))?
+            .with("ok", Json::boolean(true))?;
+        Ok(object.into_json())
     } else {
-        reply!(in alloc; {"candidates": shown, "ok": true})
+        let object = JsonObject::new(alloc)
+            .with("candidates", shown)?
+            .with("ok", Json::boolean(true))?;
+        Ok(object.into_json())
     }
 }
 
@@ -249,7 +332,11 @@ pub fn candidates(alloc: Global, shown: Json, more: bool) -> Result<Json, AllocE
 pub fn effect(alloc: Global, shown: Json, step: Json) -> Result<Json, AllocError>
     ensures reply { IfOk result (λ j. j ≡ effect_data shown step) }
 {
-    reply!(in alloc; {"changed": shown, "ok": true, "step": step})
+    let object = JsonObject::new(alloc)
+        .with("changed", shown)?
+        .with("ok", Json::boolean(true))?
+        .with("step", step)?;
+    Ok(object.into_json())
 }
 
 /// Returns the reply to a query for the turns of a condition, which the value shows: whether the condition holds at the first
@@ -258,9 +345,18 @@ pub fn turns(alloc: Global, at_lo: bool, shown: Json, more: bool) -> Result<Json
     ensures reply { IfOk result (λ j. j ≡ turns_data at_lo shown more) }
 {
     if more {
-        reply!(in alloc; {"at_lo": at_lo, "more": true, "ok": true, "turns": shown})
+        let object = JsonObject::new(alloc)
+            .with("at_lo", Json::boolean(at_lo))?
+            .with("more", Json::boolean(true))?
+            .with("ok", Json::boolean(true))?
+            .with("turns", shown)?;
+        Ok(object.into_json())
     } else {
-        reply!(in alloc; {"at_lo": at_lo, "ok": true, "turns": shown})
+        let object = JsonObject::new(alloc)
+            .with("at_lo", Json::boolean(at_lo))?
+            .with("ok", Json::boolean(true))?
+            .with("turns", shown)?;
+        Ok(object.into_json())
     }
 }
 
@@ -268,5 +364,8 @@ pub fn turns(alloc: Global, at_lo: bool, shown: Json, more: bool) -> Result<Json
 pub fn times(alloc: Global, shown: Json) -> Result<Json, AllocError>
     ensures reply { IfOk result (λ j. j ≡ times_data shown) }
 {
-    reply!(in alloc; {"ok": true, "times": shown})
+    let object = JsonObject::new(alloc)
+        .with("ok", Json::boolean(true))?
+        .with("times", shown)?;
+    Ok(object.into_json())
 }

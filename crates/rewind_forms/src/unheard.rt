@@ -3,7 +3,7 @@ ghost use Rattle.std.specs.Prelude.{◌≡◌, map, IfOk};
 ghost use Rattle.nd_state_json.specs.StateText.{row};
 ghost use Rattle.rewind_forms.specs.Reasons.{unheard_data};
 
-use nd_json::{Json, JsonList, reply};
+use nd_json::{Json, JsonList, JsonObject};
 use nd_why::Unheard;
 use std::alloc::{AllocError, Global};
 
@@ -12,9 +12,19 @@ fn one_value(alloc: Global, one: &Unheard) -> Result<Json, AllocError>
     ensures reply { IfOk result (λ j. j ≡ unheard_data one.now) }
 {
     match one {
-        Unheard::Unsent { p, n } => reply!(in alloc; {"n": *n, "p": *p as u64, "unsent": true}),
+        Unheard::Unsent { p, n } => {
+            let object = JsonObject::new(alloc)
+                .with("n", Json::integer(*n))?
+                .with("p", Json::natural(*p as u64))?
+                .with("unsent", Json::boolean(true))?;
+            Ok(object.into_json())
+        }
         Unheard::Queued { p, behind, n } => {
-            reply!(in alloc; {"behind": *behind as u64, "n": *n, "p": *p as u64})
+            let object = JsonObject::new(alloc)
+                .with("behind", Json::natural(*behind as u64))?
+                .with("n", Json::integer(*n))?
+                .with("p", Json::natural(*p as u64))?;
+            Ok(object.into_json())
         }
     }
 }

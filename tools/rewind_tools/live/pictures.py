@@ -1,6 +1,9 @@
 """What the page shows of a session at its cursor, all of it from the program's own replies."""
+import json
+
 from rewind_tools.live.sight import (
     CANDIDATES,
+    POINTS,
     cut,
     messages,
     page_of,
@@ -10,12 +13,13 @@ from rewind_tools.live.sight import (
     window,
 )
 from rewind_tools.live.turned import Turned
-from rewind_tools.telling.commands import at, command_words, processor_of
+from rewind_tools.telling.commands import at, command_words, processor_of, time_in
 from rewind_tools.telling.effects import effect_words
 from rewind_tools.telling.reasons import reason_words
 
 # How many changes of a step and how many reasons a picture has.
 MOST_CHANGES, MOST_REASONS = 60, 40
+LAST_COUNTER = (1 << 32) - 1
 
 STAYS = "it stays until it is released: a hold is never notified, and no run releases it"
 
@@ -25,34 +29,65 @@ def held_words(step):
     return f"processor {step['p']} holds a capability at {at(step['vertex'], step['time'])}"
 
 
+def depths_of(graph):
+    """The depth of each place by its name; that of an edge is its target's."""
+    depths = {it["name"]: it["depth"] for it in graph["vertices"]}
+    return {**depths, **{it["name"]: depths[it["to"]] for it in graph["edges"]}}
+
+
+def entries_of(state):
+    """How many entries a state has."""
+    return sum(len(it) for of in state["processors"] for it in of.values())
+
+
 class Pictures:
-    """Asks a session what its page shows. The steps of the last picture are kept for the next."""
+    """Asks a session what its page shows. The steps of the last picture and the state at the cursor are kept
+    for the next."""
 
     def __init__(self, session, teller):
         self.session, self.teller = session, teller
         self.order, self.holds = teller.graph.order, teller.graph.holds
+        self.ops = {name: it["op"] for name, it in teller.graph.vertices.items()}
+        self.distincts = {name for name, op in self.ops.items() if op == "distinct"}
+        self.depths = depths_of(session.graph)
         self.steps, self.turned = {}, Turned(session)
+        self.here, self.tried, self.most_entries = (None, None), (None, None), 0
 
     def forget_from(self, position):
         """Forgets what leads to positions past this one, since other steps may be kept there."""
         self.steps = {it: step for it, step in self.steps.items() if it <= position}
         self.turned.forget_from(position)
 
-    def of(self, cursor, kept, sight):
+    def at_cursor(self, cursor, revision, has_effect=True):
+        """The replies at the cursor: the state, the frontiers, and what the last step changed, if there is
+        one. They are asked once for each number of the session's state."""
+        if self.here[0] != revision:
+            lines = [{"do": "state"}]
+            lines += [{"do": "frontier", "q": q} for q in range(self.teller.processors)]
+            lines += [{"do": "effect", "to": cursor}] if has_effect and cursor else []
+            self.here = revision, self.session.ask_all(lines)
+            self.most_entries = max(self.most_entries, entries_of(self.here[1][0]["state"]))
+        return self.here[1]
+
+    def of(self, cursor, kept, revision, sight):
         """The picture at the cursor. `sight` names what else is in sight: the numbers of the first point and
-        the first candidate, the question why a point is not finished, and a condition; each may lack."""
+        the first candidate, None for no candidates; how many points, the question why a point is not
+        finished, a condition, and whether what the last step changed is; each may lack."""
         first, last = window(cursor, kept)
-        lines = [{"do": "state"}, {"do": "candidates"}]
-        lines += [{"do": "frontier", "q": q} for q in range(self.teller.processors)]
-        state, candidates, *fronts = self.session.ask_all(lines)
+        has_effect = sight.get("effect", True)
+        state, *others = self.at_cursor(cursor, revision, has_effect)
+        fronts, effect = others[: self.teller.processors], others[self.teller.processors :]
         state, steps = state["state"], self.steps_in(first, last)
+        effect = self.effect(effect[0]) if effect else None
+        rows = sight.get("points", 0), sight.get("rows", POINTS)
         return {
             "at": cursor,
             "kept": kept,
-            "state": state_in_sight(state, self.order, self.holds, fronts, sight.get("points", 0)),
+            "state": state_in_sight(state, self.order, self.ops, fronts, rows),
             "inputs": self.inputs(state),
-            "candidates": self.candidates(candidates, sight.get("candidates", 0)),
-            "effect": self.effect(cursor),
+            "candidates": self.candidates(revision, sight.get("candidates", 0)),
+            "effect": effect,
+            "marked": effect["places"] if effect else [],
             "steps": {
                 "first": first,
                 "items": [shown_step(*it) for it in enumerate(steps, first)],
@@ -79,19 +114,26 @@ class Pictures:
             for vertex, epoch in it["tokens"]
         ]
 
-    def candidates(self, reply, first):
-        """A page of the steps that a run tries."""
+    def candidates(self, revision, first):
+        """A page of the steps that a run tries, from the program's reply, which is asked for once for each
+        number of the session's state."""
+        if first is None:
+            return None
+        if self.tried[0] != revision:
+            self.tried = revision, self.session.ask({"do": "candidates"})
+        reply = self.tried[1]
         first, shown = page_of(reply["candidates"], first, CANDIDATES)
         count, more = len(reply["candidates"]), reply.get("more", False)
         return {"items": [self.candidate(it) for it in shown], "first": first, "count": count, "more": more}
 
     def candidate(self, it):
-        """A step that a run tries; if it is refused, why. The notice of a hold vertex, which is never run,
-        stands for the capability, which the page offers to release."""
+        """A step that a run tries; if it is refused, why. Its line is a text, since a browser would round
+        the value of a take. The notice of a hold vertex, which is never run, stands for the capability,
+        which the page offers to release."""
         step = it["step"]
         is_held = step["do"] == "notice" and step["vertex"] in self.holds
         shown = {
-            "line": step,
+            "line": json.dumps(step),
             "kind": "release" if is_held else step["do"],
             "p": processor_of(step),
             "words": plain(held_words(step) if is_held else command_words(step)),
@@ -111,39 +153,58 @@ class Pictures:
             return None
         return {"do": "why", "q": step["p"], "at": step["vertex"], "time": step["time"], "before": True}
 
-    def effect(self, position):
-        """What the step that leads to a position changed; None at the start."""
-        if position == 0:
-            return None
-        reply = self.session.ask({"do": "effect", "to": position})
+    def effect(self, reply):
+        """What the last step changed."""
         changed = reply["changed"]
         places = {
             it[1] for kind in ("records", "requests", "tokens", "items", "sinks") for it in changed[kind]
         }
         return {
             "step": plain(command_words(reply["step"])),
-            "words": cut(effect_words(changed, self.holds), MOST_CHANGES, plain),
+            "words": cut(effect_words(changed, self.holds, self.distincts), MOST_CHANGES, plain),
             "places": sorted(self.order[it] for it in places),
         }
 
     def why(self, asked):
-        """The reasons why a processor does not consider a point finished, in words, each with its place; and
-        the times that can still arrive there, as far as it knows."""
-        q, place, time = asked["q"], asked["at"], asked["time"]
-        line = {"do": "why", "q": q, "at": place, "time": time}
-        if asked.get("before"):
-            line["before"] = True
-        reply, arriving = self.session.ask_all([line, {"do": "frontier", "q": q, "at": place}])
-        if "error" in reply:
-            return {"error": reply["error"]}
-        reasons = [
-            {"words": plain(reason_words(it, self.holds)), "place": self.order[it["point"][0]]}
-            for it in reply["reasons"][:MOST_REASONS]
+        """The answer why a processor does not consider a point finished; without a time, the earliest that
+        can still arrive there."""
+        q, place, time = asked["q"], asked["at"], asked.get("time")
+        arriving = self.session.ask({"do": "frontier", "q": q, "at": place})
+        if "error" in arriving:
+            return {"error": f"{arriving['code']} {arriving['error']}"}
+        if time is None:
+            times = [it for it in arriving["times"] if max(it) <= LAST_COUNTER]
+            time = times[0] if times else [0] * (self.depths[place] + 1)
+        question = {"q": q, "at": place, "time": time, "before": bool(asked.get("before"))}
+        return self.whys([question], [arriving])[0]
+
+    def whys(self, questions, arriving):
+        """The answers why processors do not consider points finished, each with the reasons in words and
+        their places, and the times that can still arrive."""
+        lines = [
+            {"do": "why", **{key: it for key, it in one.items() if it is not False}} for one in questions
         ]
+        replies = self.session.ask_all(lines)
+        return [self.why_told(*it) for it in zip(questions, replies, arriving)]
+
+    def why_told(self, asked, reply, arriving):
+        place, time = asked["at"], asked["time"]
+        if "error" in reply:
+            return {"error": self.wrong_time(place, time) if reply["error"] == "BadTime" else reply["error"]}
         return {
+            "time": time,
             "passed": reply["passed"],
             "finished": reply["finished"],
-            "reasons": reasons,
-            "more": len(reply["reasons"]) - len(reasons),
-            "times": arriving["times"],
+            "reasons": [
+                {"words": plain(reason_words(it, self.holds)), "place": self.order[it["point"][0]]}
+                for it in reply["reasons"][:MOST_REASONS]
+            ],
+            "more": max(0, len(reply["reasons"]) - MOST_REASONS),
+            "times": ", ".join(map(time_in, arriving["times"])),
         }
+
+    def wrong_time(self, place, time):
+        """That a time has the wrong number of loop counters."""
+        count = self.depths[place]
+        wanted = "the epoch alone" if not count else f"the epoch and {count} loop counter{'s' * (count > 1)}"
+        return f"{time_in(time)} is no time of {place}, where a time is {wanted}"

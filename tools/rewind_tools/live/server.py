@@ -1,37 +1,39 @@
 """The server of a live session: its page, and the questions that the page asks, on this machine alone.
 
-The address has a random token; a request without it, for another host or from another page's origin is
-refused. The page may load the server's own files alone (Content-Security-Policy). The server ends with its
-last page, or with Ctrl-C."""
+The address has a random key. A request without it, for a host that is not this machine or from another
+page's origin is refused. The page may load the server's own files alone (Content-Security-Policy)."""
+import ipaddress
 import json
-import os
-import re
 import secrets
+import sys
+import tempfile
 import threading
 import time
-from html import escape
 from http.server import BaseHTTPRequestHandler, ThreadingHTTPServer
+from urllib.parse import urlsplit
 
+from rewind_tools import opening
+from rewind_tools.dropped import Dropped
 from rewind_tools.live.pictures import Pictures
+from rewind_tools.page import FILES, live_page, part
 from rewind_tools.script import COMMANDS, STEPS
 from rewind_tools.session import Ended, script_of
-from rewind_tools.showing.graphs import graph_svg, laid_out
 from rewind_tools.telling import faults, names
 from rewind_tools.telling.answers import Teller
-from rewind_tools.telling.commands import FIRM
+from rewind_tools.telling.commands import FIRM, counted
 
-FOLDER = os.path.dirname(os.path.abspath(__file__))
-FILES = {"app.js": "text/javascript; charset=utf-8", "app.css": "text/css; charset=utf-8"}
 POLICY = (
     "default-src 'none'; script-src 'self'; style-src 'self'; connect-src 'self'; img-src 'self' data:;"
     " base-uri 'none'; form-action 'none'; frame-ancestors 'none'"
 )
 LARGEST = 1 << 20
-# How wide a graph may be to stand beside the other panels, and how wide to shrink with a narrow window.
-WIDEST_BESIDE, WIDEST_SHRUNK = 560, 1000
 # How often a page is told that the server is there, and how long the server waits for a page after the last
 # has gone.
-BEAT, PATIENCE = 1.0, 4.0
+BEAT, PATIENCE = 0.25, 4.0
+# How many steps one question of a page may walk over, if the program has few checkpoints.
+SHORT_REACH, LONG_REACH = 2000, 1_000_000
+# The program keeps a checkpoint only after 4 steps for each entry of a state, and 1,024 at least.
+STEPS_PER_ENTRY, FEW = 4, 8192
 
 
 class Refused(Exception):
@@ -54,16 +56,34 @@ class Live:
             False,
             session.version,
         )
-        self.pictures = Pictures(session, self.teller)
+        self.pictures, self.dropped = Pictures(session, self.teller), Dropped(session)
         self.at = self.kept = self.revision = 0
-        self.ended = None
+        self.ended, self.saved_at = None, 0
 
-    def execute(self, commands):
-        """Executes a script's commands before a page is there; returns how many were refused."""
-        replies = self.session.ask_all(commands) if commands else []
-        for value, reply in zip(commands, replies):
-            self.note(value, reply)
-        return sum("error" in it for it in replies)
+    def close(self):
+        """Ends the session. Returns the path of a file with its kept steps, if a page has changed them and
+        has not saved them."""
+        path = None
+        try:
+            if self.revision > self.saved_at and self.kept and not self.ended:
+                script = script_of(self.session)
+                number, path = tempfile.mkstemp(prefix="rewind-", suffix=".jsonl")
+                with open(number, "w", encoding="utf-8") as it:
+                    it.write(script)
+        finally:
+            self.dropped.close()
+            self.session.close()
+        return path
+
+    def execute(self, lines):
+        """Executes a script's lines before a page is there; returns why some were refused."""
+        refused = []
+        for entry in opening.executed(self.session, lines):
+            if "line" not in entry.reply:
+                self.note(entry.line.value, entry.reply)
+            why = opening.refusal(entry, self.teller)
+            refused += [why] if why else []
+        return refused
 
     def note(self, value, reply):
         self.teller.keep(value, reply)
@@ -72,34 +92,65 @@ class Live:
         if reply.get("at") is not None:
             self.at, self.kept = reply["at"], reply.get("kept", self.kept)
 
-    def command(self, value, revision, sight):
-        """Executes a command that a page asks for, if the page has seen the newest state. Returns its answer
-        and the picture after it."""
+    def command(self, asked):
+        """Executes a command that a page asks for, if the page has seen the newest state. Of a run in
+        pieces, `ran` is how many steps the pieces before ran."""
+        value = json.loads(asked["line"])
         if not isinstance(value, dict) or value.get("do") not in COMMANDS:
             raise Refused(400, "that is no command")
-        if revision != self.revision:
-            raise Refused(409, "the session has moved on in another tab")
-        before, kept = self.at, self.kept
-        reply = self.session.ask(value)
-        if "line" in reply and "error" in reply:
-            words = faults.faulty(reply, faults.line_faults(json.dumps(value).encode(), reply, self.teller))
-        else:
-            words = self.teller.told(value, reply, None)
+        self.check_revision(asked)
+        reply, count = self.dropped.ask(value, self.at, self.kept)
+        reply.update({"ran": reply["ran"] + asked.get("ran", 0)} if "ran" in reply else {})
+        words = self.words(value, reply)
+        before = self.at, self.kept
         self.note(value, reply)
-        has_moved = self.at != before or self.kept != kept
+        has_moved = (self.at, self.kept) != before
+        if has_moved and value["do"] in (*STEPS, "run"):
+            self.pictures.forget_from(before[0])
         if has_moved or value["do"] in ("break", "unbreak"):
             self.revision += 1
-        if has_moved and value["do"] in (*STEPS, "run"):
-            self.pictures.forget_from(before)
-        return {
-            "words": [it.replace(FIRM, " ") for it in words],
-            "refused": "error" in reply,
-            **self.picture(sight),
-        }
+        gone = f"{counted(count, 'kept step')} discarded, which can be brought back" if count else None
+        return {**self.told(reply, words, asked), "discarded": gone}
+
+    def words(self, value, reply):
+        """The reply to a command in words."""
+        if "line" in reply and "error" in reply:
+            said = faults.faulty(reply, faults.line_faults(json.dumps(value).encode(), reply, self.teller))
+        else:
+            said = self.teller.told(value, reply, None)
+        return [it.replace(FIRM, " ") for it in said]
+
+    def bring_back(self, asked):
+        """Executes the run before the last discard again."""
+        self.check_revision(asked)
+        reply = self.dropped.bring_back()
+        if reply is None:
+            raise Refused(409, "there are no discarded steps")
+        self.at, self.kept, self.revision = reply["at"], reply["kept"], self.revision + 1
+        self.pictures.forget_from(0)
+        return self.told(reply, [f"brought back: {counted(self.kept, 'step')} are kept"], asked)
+
+    def check_revision(self, asked):
+        if asked.get("revision") != self.revision:
+            raise Refused(409, "the session has moved on in another tab")
+
+    def told(self, reply, words, asked):
+        """What a page is told of a command: its answer and, if the page says what is in sight, the
+        picture."""
+        told = {"words": words, "reply": reply, "refused": "error" in reply, "revision": self.revision}
+        sight = asked.get("sight")
+        return told if sight is None else {**told, **self.picture(sight)}
 
     def picture(self, sight):
         """The picture at the cursor, with what is in sight of it."""
-        return {"revision": self.revision, "picture": self.pictures.of(self.at, self.kept, sight)}
+        picture = self.pictures.of(self.at, self.kept, self.revision, sight)
+        picture.update({"dropped": len(self.dropped.paths), "reach": self.reach()})
+        return {"revision": self.revision, "picture": picture}
+
+    def reach(self):
+        """How many steps a jump may go at once: few, if the program has few checkpoints, since a state that
+        it has been in is large."""
+        return SHORT_REACH if self.pictures.most_entries * STEPS_PER_ENTRY > FEW else LONG_REACH
 
     def answer(self, path, asked):
         """The answer to a question of a page, by its path."""
@@ -114,42 +165,44 @@ class Live:
 
     def answered(self, path, asked):
         if path == "picture":
-            return self.picture(asked.get("sight", {}))
+            return self.picture(asked.get("sight") or {})
+        if path == "candidates":
+            shown = self.pictures.candidates(self.revision, asked["first"])
+            return {"revision": self.revision, "candidates": shown}
         if path == "command":
-            return self.command(asked.get("line"), asked.get("revision"), asked.get("sight", {}))
+            return self.command(asked)
+        if path == "bring-back":
+            return self.bring_back(asked)
         if path == "why":
             return self.pictures.why(asked)
         if path == "save":
+            self.saved_at = self.revision
             return {"script": script_of(self.session), "words": self.session.words}
         raise Refused(404, "there is nothing here")
 
     def page(self):
         """The page, with the graph in it."""
-        with open(os.path.join(FOLDER, "page.html"), encoding="utf-8") as it:
-            text = it.read()
-        graph = re.sub(
-            r'style="width:([\d.]+)px;min-width:[\d.]+px"',
-            r'width="\1"',
-            graph_svg(self.session.graph, laid_out(self.session.graph)),
-        )
-        places = [
-            {"name": it["name"], "op": it.get("op", "edge")}
-            for it in self.session.graph["vertices"] + self.session.graph["edges"]
-        ]
-        width = float(re.search(r'<svg [^>]*width="([\d.]+)"', graph)[1])
-        about = {"processors": self.teller.processors, "places": places, "name": self.name}
-        filled = {"title": escape(self.name), "graph": graph, "about": escape(json.dumps(about))}
-        filled["size"] = (
-            "large shrinks-little" if width > WIDEST_SHRUNK else "large" if width > WIDEST_BESIDE else ""
-        )
-        pieces = text.split("@")
-        return "".join(filled[it] if at % 2 else it for at, it in enumerate(pieces))
+        return live_page(self.session.graph, self.name, self.teller.processors)
+
+
+def host_of(address):
+    """The name in a Host header, without its port."""
+    return urlsplit(f"//{address}").hostname or ""
+
+
+def is_loopback(name):
+    """Whether a name is that of the machine itself."""
+    try:
+        return name == "localhost" or ipaddress.ip_address(name).is_loopback
+    except ValueError:
+        return False
 
 
 class Handler(BaseHTTPRequestHandler):
     """One request."""
 
     protocol_version = "HTTP/1.1"
+    default_request_version = "HTTP/1.0"  # of a first line that names none, so that its answer has a status
     disable_nagle_algorithm = True  # so that an answer's end does not wait until its beginning has arrived
 
     def log_message(self, *words):
@@ -167,53 +220,55 @@ class Handler(BaseHTTPRequestHandler):
         except Refused as refused:
             self.close_connection = True
             self.send(refused.status, "application/json", json.dumps({"error": refused.why}).encode())
-        except (BrokenPipeError, ConnectionResetError):
-            self.close_connection = True
 
     def path_asked(self):
-        """The path after the token, of a request that may be answered."""
-        server = self.server
-        if self.headers.get("Host") not in server.hosts:
+        """The path after the key, of a request that may be answered; None if the address ends without the
+        slash after it."""
+        host, origin = self.headers.get("Host", ""), self.headers.get("Origin")
+        try:
+            is_here = is_loopback(host_of(host))
+        except ValueError as fault:
+            raise Refused(400, f"that is no host: {fault}") from fault
+        if not is_here:
             raise Refused(403, "this server answers no other host")
-        origin = self.headers.get("Origin")
-        if origin is not None and origin not in {f"http://{it}" for it in server.hosts}:
+        if origin not in (None, f"http://{host}"):
             raise Refused(403, "this server answers no other page")
-        _, token, *rest = self.path.split("?")[0].split("/")
-        if not secrets.compare_digest(token.encode(), server.token.encode()):
-            raise Refused(403, "the address has another token")
-        return "/".join(rest)
+        _, key, *rest = f"/{self.path}".replace("//", "/").split("?")[0].split("/")
+        if not secrets.compare_digest(key.encode(), self.server.key.encode()):
+            raise Refused(403, "the key in the address is wrong")
+        return "/".join(rest) if rest else None
 
     def get(self, path):
-        if path == "":
+        if path is None:
+            self.send(301, "text/plain", b"", Location=f"/{self.server.key}/")
+        elif path == "":
             self.send(200, "text/html; charset=utf-8", self.server.live.page().encode())
         elif path in FILES:
-            with open(os.path.join(FOLDER, path), "rb") as it:
-                self.send(200, FILES[path], it.read())
+            self.send(200, FILES[path], part(path).encode())
         elif path == "beats":
             self.beat()
         else:
             raise Refused(404, "there is nothing here")
 
     def post(self, path):
-        length = int(self.headers.get("Content-Length") or 0)
-        if self.headers.get("Content-Type") != "application/json" or not 0 < length <= LARGEST:
+        length = self.headers.get("Content-Length", "")
+        is_length = length.isascii() and length.isdigit() and len(length) < 10 and 0 < int(length) <= LARGEST
+        if self.headers.get("Content-Type") != "application/json" or not is_length:
             raise Refused(400, "a question is a JSON object")
         try:
-            asked = json.loads(self.rfile.read(length))
-            answer = self.server.live.answer(path, asked)
-        except (ValueError, KeyError, TypeError, AttributeError) as fault:
+            answer = self.server.live.answer(path, json.loads(self.rfile.read(int(length))))
+            text = json.dumps(answer, ensure_ascii=False, separators=(",", ":")).encode()
+        except (ValueError, KeyError, TypeError, AttributeError, RecursionError) as fault:
             raise Refused(400, f"that is no question: {fault}") from fault
-        text = json.dumps(answer, ensure_ascii=False, separators=(",", ":"))
-        self.send(200, "application/json", text.encode())
+        self.send(200, "application/json", text)
 
-    def send(self, status, kind, body):
+    def send(self, status, kind, body, **headers):
         self.send_response(status)
-        self.send_header("Content-Type", kind)
-        self.send_header("Content-Length", str(len(body)))
-        self.send_header("Content-Security-Policy", POLICY)
-        self.send_header("X-Content-Type-Options", "nosniff")
-        self.send_header("Referrer-Policy", "no-referrer")
-        self.send_header("Cache-Control", "no-store")
+        headers.update({"Content-Type": kind, "Content-Length": str(len(body))})
+        headers.update({"Content-Security-Policy": POLICY, "X-Content-Type-Options": "nosniff"})
+        headers.update({"Referrer-Policy": "no-referrer", "Cache-Control": "no-store"})
+        for name, value in headers.items():
+            self.send_header(name, value)
         self.end_headers()
         self.wfile.write(body)
 
@@ -232,48 +287,57 @@ class Handler(BaseHTTPRequestHandler):
                 self.wfile.write(b": here\n\n" if now == told else f"data: {json.dumps(now)}\n\n".encode())
                 self.wfile.flush()
                 told = now
-                time.sleep(BEAT / 4)
+                time.sleep(BEAT)
 
 
 class Watching:
     """Counts the pages that are there."""
 
     def __init__(self):
-        self.count, self.has_been, self.left_at, self.lock = 0, False, None, threading.Lock()
+        self.count, self.left_at, self.lock = 0, None, threading.Lock()
 
     def __enter__(self):
         with self.lock:
-            self.count, self.has_been = self.count + 1, True
+            self.count += 1
 
     def __exit__(self, *fault):
         with self.lock:
             self.count -= 1
             self.left_at = time.monotonic()
 
-    def is_over(self):
+    def has_emptied(self):
+        """Whether the last page has gone, and none has come for a while; true once each time."""
         with self.lock:
-            return self.has_been and self.count == 0 and time.monotonic() - self.left_at > PATIENCE
+            if self.count or self.left_at is None or time.monotonic() - self.left_at <= PATIENCE:
+                return False
+            self.left_at = None
+            return True
 
 
 class Server(ThreadingHTTPServer):
+    """Serves a live session. `say` prints a line; with `is_once` the server ends with its last page."""
+
     daemon_threads = True
 
-    def __init__(self, live, port=0):
+    def __init__(self, live, port=0, is_once=False, say=print):
         super().__init__(("127.0.0.1", port), Handler)
-        self.live, self.token, self.watching, self.is_ending = (
-            live,
-            secrets.token_urlsafe(18),
-            Watching(),
-            False,
-        )
-        number = self.server_address[1]
-        self.hosts = {f"127.0.0.1:{number}", f"localhost:{number}"}
+        self.live, self.is_once, self.say = live, is_once, say
+        self.key, self.watching, self.is_ending = secrets.token_urlsafe(18), Watching(), False
 
     @property
     def address(self):
-        return f"http://127.0.0.1:{self.server_address[1]}/{self.token}/"
+        return f"http://127.0.0.1:{self.server_address[1]}/{self.key}/"
 
     def service_actions(self):
-        if self.watching.is_over():
+        if not self.watching.has_emptied():
+            return
+        if self.is_once:
             self.is_ending = True
             threading.Thread(target=self.shutdown, daemon=True).start()
+        else:
+            self.say(f"no page is open; the session stays until Ctrl-C, at {self.address}")
+
+    def handle_error(self, request, client_address):
+        """A client that has gone away is no fault of the server."""
+        if not isinstance(sys.exc_info()[1], ConnectionError):
+            super().handle_error(request, client_address)

@@ -25,19 +25,20 @@ def page_of(listed, first, most):
     return first, listed[first : first + most]
 
 
-def state_in_sight(state, order, holds, fronts, first):
-    """A state as the page shows it. Of the table it has the page with point number `first`; `fronts` are the
-    replies to the queries for frontiers."""
+def state_in_sight(state, order, ops, fronts, rows):
+    """A state as the page shows it. `ops` has the operator of each vertex, `fronts` the replies to the
+    queries for frontiers. Of the table it has a page: `rows` are the number of a point on it, and how many
+    points a page has."""
     points, fronts = Points(state, order), frontiers_of(fronts)
     listed = points.all()
-    first, shown = page_of(listed, first, POINTS)
+    first, shown = page_of(listed, *rows)
     return {
-        "places": place_counts(state, points, holds, TIMES),
+        "places": place_counts(state, points, ops, TIMES),
         "points": [point_row(points, it, fronts) for it in shown],
         "first": first,
         "count": len(listed),
         "queues": [queue_in_sight(*it) for it in queues_of(state)],
-        "processors": [held_in_sight(it, holds) for it in state["processors"]],
+        "processors": [held_in_sight(it, ops) for it in state["processors"]],
     }
 
 
@@ -50,10 +51,10 @@ def queue_in_sight(sender, receiver, queue):
     return {"from": sender, "to": receiver, "changes": cut(queue, CHANGES, change)}
 
 
-def held_in_sight(processor, holds):
+def held_in_sight(processor, ops):
     """What a processor holds, by kind."""
     return {
-        kind: cut(entries, HELD, words) for kind, (entries, words) in kinds_of(processor, holds).items()
+        kind: cut(entries, HELD, words) for kind, (entries, words) in kinds_of(processor, ops).items()
     }
 
 

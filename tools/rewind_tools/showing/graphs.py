@@ -5,12 +5,16 @@ import subprocess
 from html import escape
 
 from rewind_tools.layout import Drawn, Edge, layout, tidy
+from rewind_tools.showing.loops import loop_svg, loops_of
 from rewind_tools.wrapping import wrapped
 
 LETTER = 7.3
 COUNT_LETTERS = 12
-# How wide a graph may be before it stands in rows.
-WIDEST = 1400
+# How wide rows may be, and how much wider a graph may be that stands in one row.
+WIDEST, SLACK = 1400, 1.2
+RIM = 20  # the room around the graph
+# What makes an element one with a name of its own, and one that is pressed.
+NAMED, PRESSED = 'role="group" aria-label="the graph"', 'role="button" tabindex="0"'
 
 
 def width_of(text, letter=LETTER):
@@ -59,6 +63,9 @@ def dot_source(graph, boxes, labels):
     lines = ['digraph { rankdir=LR; nodesep=0.25; ranksep=0.22; node [shape=box, fixedsize=true, label=""];']
     for name, at in number.items():
         lines.append(f"v{at} [width={boxes[name][0] / 72:.3f}, height={boxes[name][1] / 72:.3f}];")
+    for at, (_, inside) in enumerate(loops_of(graph)):
+        vertices = "; ".join(f"v{number[it]}" for it in inside)
+        lines.append(f"subgraph cluster{at} {{ margin=14; {vertices} }}")
     for at, it in enumerate(graph["edges"]):
         wide, high = labels[it["name"]]
         box = (
@@ -82,7 +89,8 @@ def by_dot(graph, boxes, labels):
             return (float(text.split(",")[0]), height - float(text.split(",")[1]))
 
         names = [it["name"] for it in graph["vertices"]]
-        nodes = {names[int(it["name"][1:])]: tidy(point(it["pos"])) for it in said.get("objects", [])}
+        vertices = [it for it in said.get("objects", []) if "pos" in it]  # others are the frames of loops
+        nodes = {names[int(it["name"][1:])]: tidy(point(it["pos"])) for it in vertices}
         middles, paths = {}, {}
         for it in said.get("edges", []):
             name = graph["edges"][int(it["id"])]["name"]
@@ -103,11 +111,12 @@ def path_text(points):
 
 
 def graph_svg(graph, drawn):
-    """The graph's picture. Each place has its number in the order of listing, by which the counts are filled
-    in. A graph that is too wide stands in rows."""
+    """The graph's picture, and its width. Each place has its number in the order of listing, by which the
+    counts are filled in. A graph that is too wide stands in rows."""
     boxes, labels = sizes_of(graph)
-    drawn = wrapped(drawn, boxes, labels, WIDEST)
-    parts = [
+    drawn = wrapped(drawn, boxes, labels, WIDEST if drawn.width > SLACK * WIDEST else drawn.width)
+    parts = [loop_svg(graph, drawn, (boxes, labels), *it) for it in loops_of(graph)]
+    parts += [
         edge_svg(it, drawn.curves[it["name"]], len(graph["vertices"]) + at)
         for at, it in enumerate(graph["edges"])
     ]
@@ -121,20 +130,15 @@ def graph_svg(graph, drawn):
         )
     for name, notes in drawn.notes.items():
         parts += [f'<text class="more" x="{x:g}" y="{y:g}">{escape(name)}</text>' for x, y in notes]
-    wide, high = drawn.width + 12, drawn.height + 12
+    wide, high = drawn.width + 2 * RIM, drawn.height + 2 * RIM
     head = (
         '<defs><marker id="tip" viewBox="0 0 8 8" refX="7" refY="4" markerUnits="userSpaceOnUse"'
         ' markerWidth="10" '
     )
     head += 'markerHeight="10" orient="auto"><path d="M0,0 L8,4 L0,8 z"/></marker></defs>'
-    size = (
-        f'viewBox="-6 -6 {wide:g} {high:g}"'
-        f' style="width:{wide:g}px;min-width:{min(wide, max(360, wide * 0.8)):g}px"'
-    )
-    start = (
-        f'<svg xmlns="http://www.w3.org/2000/svg" class="graph" role="img" aria-label="the graph" {size}>'
-    )
-    return f"{start}{head}{''.join(parts)}</svg>"
+    size = f'viewBox="{-RIM} {-RIM} {wide:g} {high:g}" width="{wide:g}" data-width="{wide:g}"'
+    start = f'<svg xmlns="http://www.w3.org/2000/svg" class="graph" {NAMED} {size}>'
+    return f"{start}{head}{''.join(parts)}</svg>", wide
 
 
 def edge_svg(edge, curves, number):
@@ -149,7 +153,8 @@ def vertex_svg(vertex, middle, size, number):
     name = f'<text class="name" x="{x:g}" y="{y - 12:g}">{escape(vertex["name"])}</text>'
     kind = f'<text class="kind" x="{x:g}" y="{y + 4:g}">{escape(kind_of(vertex))}</text>'
     count = f'<text class="count" x="{x:g}" y="{y + 21:g}"></text>'
-    return f'<g class="place vertex" data-place="{number}"><title></title>{box}{name}{kind}{count}</g>'
+    start = f'<g class="place vertex" data-place="{number}" {PRESSED}><title></title>'
+    return f"{start}{box}{name}{kind}{count}</g>"
 
 
 def label_svg(edge, middle, size, number):
@@ -161,4 +166,5 @@ def label_svg(edge, middle, size, number):
     port = f'<tspan class="kind">{port_of(edge)}</tspan>'
     name = f'<text class="name" x="{x:g}" y="{y - 4:g}">{escape(edge["name"])}{port}</text>'
     count = f'<text class="count" x="{x:g}" y="{y + 12:g}"></text>'
-    return f'<g class="place label" data-place="{number}"><title></title>{back}{name}{count}</g>'
+    start = f'<g class="place label" data-place="{number}" {PRESSED}><title></title>'
+    return f"{start}{back}{name}{count}</g>"

@@ -1,19 +1,5 @@
-"""What a page shows of a state and of the breakpoints, all of it as text."""
+"""What a page shows of a state, all of it as text."""
 from rewind_tools.telling.commands import at, time_in
-from rewind_tools.telling.table import Points
-
-
-def queries_of(words):
-    """The queries for a page's states: the state, and the frontier of each processor that the words of the
-    command line ask for."""
-    given = [it.partition("=") for it in words]
-    counts = [
-        after if sign else next(iter(words[place + 1 :]), "")
-        for place, (name, sign, after) in enumerate(given)
-        if name == "--processors"
-    ]
-    count = int(counts[-1]) if counts and counts[-1].isdecimal() else 1
-    return ['{"do":"state"}', *(f'{{"do":"frontier","q":{q}}}' for q in range(min(count, 16)))]
 
 
 def number(count, has_sign=False):
@@ -43,9 +29,10 @@ def added(counts, time, count):
     counts[time] = counts.get(time, 0) + count
 
 
-def place_counts(state, points, holds, most=None):
+def place_counts(state, points, ops, most=None):
     """What stands at each place over all processors: records, tokens, requests or held capabilities, and
-    what a sink has counted; of the times at most `most`. `points` are those of the state."""
+    what a sink has counted; of the times at most `most`. `points` are those of the state, and `ops` has the
+    operator of each vertex."""
     records, requests, tokens, sinks = ({} for _ in range(4))
     for (place, time), count in points.records.items():
         records.setdefault(place, {})[time] = count
@@ -60,7 +47,7 @@ def place_counts(state, points, holds, most=None):
     for kind, counts in (("record", records), ("request", requests), ("token", tokens)):
         for place, by_time in counts.items():
             total, there, lines = times(by_time, most)
-            of = "held" if place in holds else kind + "s" * (total != "1")
+            of = "held" if ops.get(place) == "hold" else kind + "s" * (total != "1")
             shown[points.order[place]] = {"n": total, "of": of, "when": there, "by": lines}
     for place, count in sinks.items():
         shown[points.order[place]] = {"n": str(count), "of": "counted", "when": "", "by": []}
@@ -89,32 +76,29 @@ def point_row(points, point, fronts):
     }
 
 
-def kinds_of(processor, holds):
-    """What one processor holds, by kind: the entries, and what words one of them. A request at a hold vertex
-    is a capability."""
+def kinds_of(processor, ops):
+    """What one processor holds, by kind: the entries, and what words one of them. `ops` has the operator of
+    each vertex: a request at a hold is a capability, and a sum keeps one number."""
 
     def times_of(count):
         return f" \u00d7{count}" if count > 1 else ""
 
     def kept(it):
         place, time, item, count = it
-        return f"{at(place, time)}: {item}{times_of(count)}"
+        return f"{at(place, time)}: {f'sum {count}' if ops[place] == 'sum' else f'has seen {item}'}"
+
+    def is_held(it):
+        return ops[it[0]] == "hold"
 
     requests = processor["requests"]
     return {
         "tokens": (processor["tokens"], lambda it: at(it[0], [it[1]])),
         "records": (processor["records"], lambda it: f"{it[2]} on {at(*it[:2])}{times_of(it[3])}"),
-        "requests": ([it for it in requests if it[0] not in holds], lambda it: at(*it)),
-        "capabilities": ([it for it in requests if it[0] in holds], lambda it: at(*it)),
+        "requests": ([it for it in requests if not is_held(it)], lambda it: at(*it)),
+        "capabilities": ([it for it in requests if is_held(it)], lambda it: at(*it)),
         "kept by vertices": (processor["items"], kept),
         "counted by sinks": (processor["sinks"], lambda it: f"{it[0]}: {it[1]}{times_of(it[2])}"),
     }
-
-
-def holdings(processor, holds):
-    """What one processor holds, in words, by kind."""
-    kinds = kinds_of(processor, holds)
-    return {kind: [words(it) for it in entries] for kind, (entries, words) in kinds.items()}
 
 
 def queues_of(state):
@@ -122,30 +106,6 @@ def queues_of(state):
     return [(p, q, queue) for p, row in enumerate(state["queues"]) for q, queue in enumerate(row) if queue]
 
 
-def shown_state(state, order, holds, answers):
-    """A state as a page shows it; the frontiers come from the replies to the queries after it."""
-    points = Points(state, order)
-    fronts = frontiers_of([it for it in answers if "state" not in it])
-    return {
-        "places": place_counts(state, points, holds),
-        "points": [point_row(points, it, fronts) for it in points.all()],
-        "queues": [
-            {"from": p, "to": q, "changes": [changes(it) for it in queue]}
-            for p, q, queue in queues_of(state)
-        ],
-        "processors": [holdings(it, holds) for it in state["processors"]],
-    }
-
-
 def order_of(graph):
     """The number of each place, in the order of listing."""
     return {it["name"]: at for at, it in enumerate(graph["vertices"] + graph["edges"])}
-
-
-def breaks_of(teller, reply):
-    """The breakpoints that are set, as the replies so far tell, and which of them a run has stopped at."""
-    stop = reply.get("stop")
-    stopped = stop["break"] if isinstance(stop, dict) else None
-    return [
-        {"id": key, "when": when, "holds": key == stopped} for key, when in sorted(teller.breaks.items())
-    ]

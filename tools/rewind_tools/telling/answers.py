@@ -1,7 +1,8 @@
 """The program's replies in words, with what a script's earlier replies told: the cursor, the kept steps, the
 breakpoints."""
 from rewind_tools.script import STEPS, literals_in
-from rewind_tools.telling.commands import at, command_words, condition, counted, processors, some_of, time_in
+from rewind_tools.telling.commands import at, command_words, condition, counted, processors, record, some_of
+from rewind_tools.telling.commands import time_in
 from rewind_tools.telling.effects import effect_words
 from rewind_tools.telling.forms import listed
 from rewind_tools.telling.reasons import why_words
@@ -41,6 +42,8 @@ class Teller:
             why = "nothing is enabled" + (f" on {processors(value['only'])}" if "only" in value else "")
         elif stop == "limit":
             why = "that is the limit"
+        elif stop == "interrupt":
+            why = "Ctrl-C"
         else:
             why = (
                 f"breakpoint {stop['break']} holds:"
@@ -144,15 +147,15 @@ def not_later(teller, value, reply, before):
 def inadmissible(teller, value, reply, before):
     place = at(*reply["point"])
     return (
-        f"{place} would stay behind positive, with neither a fall that stays nor a token of processor"
-        f" {value['p']} strictly before"
+        f"{place} would be left out, and is positive; strictly before it there is neither a negative entry"
+        f" that is left out, too, nor a token of processor {value['p']}"
     )
 
 
 def no_record(teller, value, reply, before):
     """What records there are instead: the processor's on that edge, and the same of other processors."""
     wanted = [value["edge"], value["time"], value["value"]]
-    said = f"processor {value['p']} has no record {value['value']} at {at(*wanted[:2])}"
+    said = f"processor {value['p']} has no {record(value['value'])} at {at(*wanted[:2])}"
     if before is None:
         return said
     own = [it for it in before["processors"][value["p"]]["records"] if it[0] == wanted[0]]
@@ -161,8 +164,8 @@ def no_record(teller, value, reply, before):
         for p, it in enumerate(before["processors"])
         if any(record[:3] == wanted for record in it["records"])
     ]
-    there = some_of(f"{it[2]} at {at(*it[:2])}" for it in own)
-    elsewhere = f"; processor {listed(map(str, others))} has one" if others else ""
+    there = some_of(f"a {record(it[2])} at {at(*it[:2])}" for it in own)
+    elsewhere = f"; {processors(others)} ha{'s' if len(others) == 1 else 've'} one" if others else ""
     return f"{said}; on {value['edge']} it has {there}{elsewhere}"
 
 
@@ -170,7 +173,8 @@ def no_request(teller, value, reply, before):
     if value["do"] == "release":
         return no_capability(teller, value, before)
     said = (
-        f"on processor {value['p']} {value['vertex']} has not asked for a notice at {time_in(value['time'])}"
+        f"{value['vertex']} on processor {value['p']} has not asked for a notification at"
+        f" {time_in(value['time'])}"
     )
     if before is None:
         return said
@@ -208,7 +212,7 @@ def queue_empty(teller, value, reply, before):
 def timeline_full(teller, value, reply, before):
     if value["do"] == "run":
         return f"the limit, {value['limit']}, is above 1000000 less the cursor"
-    return "the cursor is at 1000000, where no step is made; going back makes room"
+    return "the cursor is at 1000000, where no step is executed; going back makes room"
 
 
 def sentence(words):
@@ -231,10 +235,10 @@ REFUSALS = {
     "NotNotified": not_notified,
     "NotLater": not_later,
     "CounterFull": lambda teller, value, reply, before: (
-        f"{teller.graph.worker(value)} would raise a counter past 4294967295"
+        f"{teller.graph.vertex_of(value)} would raise a counter past 4294967295"
     ),
     "ValueRange": lambda teller, value, reply, before: (
-        f"{teller.graph.worker(value)} would make a number past 64 bits"
+        f"{teller.graph.vertex_of(value)} would make a number past 64 bits"
     ),
     "CountFull": sentence("a record's or a sink's count would pass 1099511627776"),
     "DeltaFull": sentence("an unsent entry or one of a view would pass 1099511627776"),
@@ -245,14 +249,14 @@ REFUSALS = {
     "Memory": lambda teller, value, reply, before: "no memory was left"
     + (f"; {stopped(reply)}" if "at" in reply else ""),
     "AtStart": sentence("no step is kept before the cursor"),
-    "AtEnd": sentence("no step is kept behind the cursor"),
+    "AtEnd": sentence("no step is kept after the cursor"),
     "NoSuchPoint": Teller.no_such_point,
     "TimelineFull": timeline_full,
     "TooManyBreaks": sentence("32 breakpoints are set; at most 32 may be"),
     "NoBreak": Teller.no_break,
-    "LogFull": sentence("1000000 commands are logged, and no more are made"),
+    "LogFull": sentence("1000000 commands are logged, and no more are executed"),
     "BadRange": lambda teller, value, reply, before: f"lo, {value['lo']}, is above hi, {value['hi']}",
-    "NoWorkers": sentence("workers is 0; at least 1 is needed"),
+    "NoWorkers": sentence('"workers" is 0; at least 1 thread is needed'),
     "Missing": lambda teller, value, reply, before: (
         f"no memory was left for piece {reply['piece']} of the positions"
     ),
@@ -280,16 +284,18 @@ def frontier(teller, value, reply):
 
 def candidates(teller, value, reply):
     """Each step that may be executed, and of each other one what stands in the way."""
+    first, told = all_candidates(teller, reply)
+    rest = [f"... ({len(told)} in all)"] if len(told) > MOST_STEPS else []
+    return [first, *told[:MOST_STEPS], *rest]
+
+
+def all_candidates(teller, reply):
+    """How many steps may be executed, and a sentence for each candidate."""
     told = [candidate(teller, it) for it in reply["candidates"]]
     count = sum("refused" not in it for it in reply["candidates"])
     more = "; there are more than these" if reply.get("more") else ""
-    rest = [f".. ({len(told)} in all)"] if len(told) > MOST_STEPS else []
-    first = (
-        f"{counted(count, 'step')} of {len(told)} may be executed{more}"
-        if told
-        else "no step is left but a feed"
-    )
-    return [first, *told[:MOST_STEPS], *rest]
+    head = f"{counted(count, 'step')} of {len(told)} may be executed{more}"
+    return head if told else "no step is left but a feed", told
 
 
 def candidate(teller, it):
@@ -300,7 +306,8 @@ def candidate(teller, it):
 
 def effect(teller, value, reply):
     """The step, and each place that it changed."""
-    return [command_words(reply["step"]), *effect_words(reply["changed"], teller.graph.holds)]
+    changed = effect_words(reply["changed"], teller.graph.holds, teller.graph.distincts)
+    return [command_words(reply["step"]), *changed]
 
 
 def turns(teller, value, reply):
@@ -311,7 +318,8 @@ def turns(teller, value, reply):
         holds = not holds
         told.append(f"{'begins' if holds else 'ceases'} to hold at {position}")
     more = ", and there are more" if reply.get("more") else ""
-    return [first, f"it {some_of(told)}{more}" if told else "and that stays so"]
+    stays = f"and that does not change up to position {value['hi']}"
+    return [first, f"it {some_of(told)}{more}" if told else stays]
 
 
 def passed(teller, value, reply):
@@ -319,17 +327,17 @@ def passed(teller, value, reply):
 
 
 def changed(teller, value, reply):
-    """At which positions a view changed, each with the entry there."""
-    told = [f"at position {position} to {entry}" for position, entry in reply["changes"]]
+    """What a view's entry became, at each position where it changed."""
+    told = [f"{entry} at position {position}" for position, entry in reply["changes"]]
     more = ", and there are more" if reply.get("more") else ""
-    return [some_of(told) + more if told else "at none"]
+    return [f"it became {some_of(told)}{more}" if told else "at none"]
 
 
 def exported(teller, value, reply):
     """The kept steps, a sentence each if they are few, and which of them are made."""
     steps = reply["steps"]
     told = [f"{position}. {command_words(it)}" for position, it in enumerate(steps, 1)]
-    rest = [f".. ({len(steps)} in all)"] if len(told) > MOST_STEPS else []
+    rest = [f"... ({len(steps)} in all; tools/replay writes them all)"] if len(told) > MOST_STEPS else []
     return [
         f"{counted(len(steps), 'kept step')}, and the cursor is at {reply['at']}",
         *told[:MOST_STEPS],

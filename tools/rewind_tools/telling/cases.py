@@ -27,6 +27,9 @@ A, M, S, Z = vertex("a", "input"), vertex("m", "add", k=1), vertex("s", "sum"), 
 LINE = json.dumps(graph([A, Z], [edge("az", "a", "z")]))
 ADD = json.dumps(graph([A, M, Z], [edge("am", "a", "m"), edge("mz", "m", "z")]))
 SUM = json.dumps(graph([A, S, Z], [edge("as", "a", "s"), edge("sz", "s", "z")]))
+DISTINCT = json.dumps(
+    graph([A, vertex("d", "distinct"), Z], [edge("ad", "a", "d"), edge("dz", "d", "z")])
+)
 EXCHANGE = json.dumps(graph([A, Z], [edge("az", "a", "z", route="exchange")]))
 ROUND = graph(
     [
@@ -104,14 +107,14 @@ TOLD = {
         (1, "edges: as from a to s (local), sz from s to z (local)"),
         (1, "5 locations, 1 processor"),
         (2, "processor 0 feeds 2 and 3 into a and goes on to the next epoch"),
-        (2, "the cursor is at 1 of 1 kept step"), (3, "processor 0 takes 2 off as (0)"),
+        (2, "the cursor is at 1 of 1 kept step"), (3, "processor 0 takes a record of value 2 from as (0)"),
         (4, "processor 0 broadcasts all that is unsent"), (4, "changes on their way: 1 from 0 to 0"),
         (5, "processor 0 receives the first change on its way from processor 0"),
-        (6, "processor 0 runs the notice of s (0)"),
+        (6, "processor 0 runs the notification of s (0)"),
         (6, "refused, 10 NotYet: processor 0's view has as (0) strictly before s (0)"),
         (8, "processor 0 broadcasts what is unsent at as (0)"), (10, "the cursor is at 8 of 8 kept steps"),
-        (11, "back over the last step"),
-        (11, "the cursor is at 7 of 8 kept steps"), (12, "make the kept step behind the cursor again"),
+        (11, "undo the last step"),
+        (11, "the cursor is at 7 of 8 kept steps"), (12, "execute the kept step after the cursor again"),
         (13, "jump to position 2"), (13, "the cursor is at 2 of 8 kept steps"),
         (14, "feeds nothing into a and stays at its epoch"),
         (14, "the cursor is at 3 of 3 kept steps"), (15, "and gives up its token"),
@@ -133,8 +136,8 @@ TOLD = {
         (9, "az (0) | 1 | . | 1"),
         (10, "sinks have counted: z 5"), (11, "passed z (0)? yes"), (12, "view? nothing"),
         (13, "at which of the positions 0 to 4 first: z has counted the value 5 at least 1 time? (2 "
-            "workers) at position 2"),
-        (14, "at least 2 of changes on their way from processor 0 to 0? (1 worker) at none"),
+            "threads) at position 2"),
+        (14, "at least 2 of changes on their way from processor 0 to 0? (1 thread) at none"),
     ]),
     "breakpoints": ([], [
         LINE, do("break", when={"passed": {"at": "z", "q": 0, "time": [0]}}),
@@ -144,7 +147,7 @@ TOLD = {
     ], 0, [
         (2, "set a breakpoint: processor 0 has passed z (0)"), (2, "it is breakpoint 0"),
         (3, "at least 1 of records, requests and tokens at az (0)"), (3, "it is breakpoint 1"),
-        (5, "run, at most 9 steps"), (6, "take breakpoint 1 out"),
+        (5, "run, at most 9 steps"), (6, "remove breakpoint 1"),
         (6, "records, requests and tokens at az (0)"),
         (5, "ran 3 steps, then stopped: breakpoint 0 holds: processor 0 has passed z (0)"),
         (7, "refused, 25 NoBreak: there is no breakpoint 1; set: 0"), (8, "nothing is enabled"),
@@ -188,9 +191,10 @@ TOLD = {
         (2, "refused, 1 NoProcessor: there is no processor 3; there are the processors 0 to 2"),
         (3, "refused, 4 NotInput: z is a vertex (sink); inputs: a"),
         (5, "refused, 5 InputClosed: processor 0 has given up its token of a"),
-        (6, "refused, 8 NoRecord: processor 0 has no record 5 at az (0)"), (6, "processor 2 has one"),
-        (7, "on az it has 5 at az (0)"),
-        (8, "refused, 9 NoRequest: on processor 0 z has not asked for a notice at (0)"),
+        (6, "refused, 8 NoRecord: processor 0 has no record of value 5 at az (0)"),
+        (6, "; processor 2 has one"),
+        (7, "on az it has a record of value 5 at az (0)"),
+        (8, "refused, 9 NoRequest: z on processor 0 has not asked for a notification at (0)"),
         (9, "refused, 15 NothingToSend"), (10, "refused, 16 NotAdmissible: az (0)"),
         (11, "refused, 17 QueueEmpty: nothing is on its way from processor 1 to 0, nor from others"),
         (12, "refused, 21 AtEnd"),
@@ -216,12 +220,12 @@ TOLD = {
     # what no step can move
     "idle on a value": ([], [
         ADD, do("feed", p=0, vertex="a", values=[TOP, 5], next="close"), do("run", limit=99),
-    ], 0, [(3, "nothing is enabled"), (3, f"left: processor 0, record {TOP} at am (0): 12 ValueRange: m "
-        f"(add 1)"), (3, "counted: z 6")]),
+    ], 0, [(3, "nothing is enabled"), (3, f"left: processor 0, record of value {TOP} at am (0): 12 "
+        f"ValueRange: m (add 1)"), (3, "counted: z 6")]),
     "idle on a notice": ([], [
         SUM, do("feed", p=0, vertex="a", values=[2], next="stay"), do("run", limit=99),
-    ], 0, [(3, "left: processor 0, notice of s (0): 10 NotYet: processor 0's view has a (0) strictly before "
-        "s (0)")]),
+    ], 0, [(3, "left: processor 0, notification of s (0): 10 NotYet: processor 0's view has a (0) strictly "
+        "before s (0)")]),
     "idle with nothing": ([], [LINE, FEED, do("run", limit=99)], 0,
         [(3, "left: no record, request, unsent entry or change")]),
     # faulty lines
@@ -411,12 +415,13 @@ TOLD = {
     ], 0, [
         (4, "why does processor 1 not consider z (0) finished? processor 1 does not know that z (0) is "
             "finished: it still counts 3 at"),
-        (4, "held there: the tokens of processors 1 and 2; not heard: -1 of processor 0, which has not sent "
-            "it it is not finished"),
-        (9, "it still counts 3 at a (0); held there: the tokens of processors 1 and 2; not heard: -1 of "
-            "processor 0, first on its way"),
+        (4, "held there: the tokens of processors 1 and 2; not heard: an update of -1 by processor 0, "
+            "not yet broadcast in truth z (0) is not finished"),
+        (9, "it still counts 3 at a (0); held there: the tokens of processors 1 and 2; not heard: an update "
+            "of -1 by processor 0, first in its queue"),
         (10, "refused, 1 NoProcessor: there is no processor 3; there are the processors 0 to 2"),
-        (11, "when did processor 1's view of az (0) change, from position 0 to 5? at position 4 to -1"),
+        (11, "when did processor 1's view of az (0) change, from position 0 to 5? it became -1 at "
+            "position 4"),
         (12, "at none"),
         (13, "refused, 50 BadRange: lo, 2, is above hi, 1"),
         (14, "22 NoSuchPoint: position 6 is past the last kept step"),
@@ -436,10 +441,12 @@ TOLD = {
         do("why", q=0, at="z", time=[0]),
         do("run", limit=9), do("why", q=0, at="z", time=[0]),
     ], 0, [
-        (7, "it still counts 2 at as (0); held there: 2 records 3 of processor 0 it is not finished"),
-        (12, "nothing is held there; not heard: -1 of processor 0, first on its way and -1 of processor 0, "
-            "behind 1 change on its way"),
-        (14, "it still counts 1 at s (0); held there: the request of processor 0 it is not finished"),
+        (7, "it still counts 2 at as (0); held there: 2 records of value 3 on processor 0 in truth z (0) "
+            "is not finished"),
+        (12, "nothing is held there; not heard: an update of -1 by processor 0, first in its queue and an "
+            "update of -1 by processor 0, after 1 change in its queue"),
+        (14, "it still counts 1 at s (0); held there: the request of processor 0 in truth z (0) is not "
+            "finished"),
         (16, "processor 0 knows that z (0) is finished"),
     ]),
     "a later query": ([],
@@ -465,7 +472,7 @@ TOLD = {
         [(1, "48 BadCount: a script of version 1 has at most 8 processors")]),
     "clients of a version": (["--clients", "2"], [V2, *CLIENTS], 0, [
         (1, "this is a script of version 2"), (2, "the graph"),
-        (3, "line 3, client 0: processor 0 feeds 5 into a"), (4, "back over"),
+        (3, "line 3, client 0: processor 0 feeds 5 into a"), (4, "undo the last"),
     ]),
     "clients' export": (["--clients", "2"], [V2, *CLIENTS, '{"client":1,"do":"export"}'], 2,
         [(5, '36 OneClientOnly: "export"')]),
@@ -484,21 +491,22 @@ TOLD = {
     ], 0, [
         (3, "which steps may be executed now, and what stands in the way of the others? no step is left but "
             "a feed"),
-        (6, "2 steps of 3 may be executed enabled: processor 0 takes 3 off as (0)"),
-        (6, "processor 0 runs the notice of s (0): refused, 10 NotYet: processor 0's view has a (0) "
+        (6, "2 steps of 3 may be executed enabled: processor 0 takes a record of value 3 from as (0)"),
+        (6, "processor 0 runs the notification of s (0): refused, 10 NotYet: processor 0's view has a (0) "
             "strictly before s (0)"),
         (6, "enabled: processor 0 broadcasts all that is unsent"),
-        (7, "what did the step that leads to position 2 change? processor 0 takes 2 off as (0)"),
-        (7, "records 2 of processor 0 at as (0): from 1 to 0 processor 0 asks for a notice at s (0) s of "
-            "processor 0 keeps 2 for 0 at (0)"),
-        (7, "unsent of processor 0 at s (0): from 0 to 1 unsent of processor 0 at as (0): from 2 to 1"),
+        (7, "what did the step that leads to position 2 change? processor 0 takes a record of value 2 from "
+            "as (0)"),
+        (7, "records of value 2 on processor 0 at as (0): from 1 to 0 processor 0 asks for a notification "
+            "at s (0) s on processor 0 has the sum 2 at (0)"),
+        (7, "unsent on processor 0 at s (0): from 0 to 1 unsent on processor 0 at as (0): from 2 to 1"),
         (8, "22 NoSuchPoint: no step leads to position 0"),
         (9, "processor 0 gives up its token of a, which was at epoch 0"),
         (10, "which times can still arrive at z, as far as processor 0 knows? (0), and all that are later"),
         (11, "why does processor 0 not consider all that is strictly before s (0) finished? processor 0 "
             "does not know that all that is"),
-        (11, "it still counts 1 at a (0); nothing is held there; not heard: -1 of processor 0, which has "
-            "not sent it"),
+        (11, "it still counts 1 at a (0); nothing is held there; not heard: an update of -1 by processor "
+            "0, not yet broadcast"),
         (12, '"y" is no name of the graph'), (13, "there is no processor 1"),
     ]),
     "a notice and its view": ([], [
@@ -506,11 +514,20 @@ TOLD = {
         do("effect", to=5), do("effect", to=4),
         do("frontier", q=0, at="z"), do("effect", to=3),
     ], 0, [
-        (5, "s of processor 0 keeps nothing for 0 at (0) any more; it was 2"),
-        (5, "processor 0 asks for no notice at s (0) any more"),
+        (5, "s on processor 0 gives up its sum 2 at (0)"),
+        (5, "processor 0 no longer asks for a notification at s (0)"),
         (6, "the queue from processor 0 to 0 gets shorter: 1 change, then 0"),
         (6, "the view of processor 0 at a (0): from 1 to 0"),
         (7, "none: nothing can arrive there any more"), (8, "gets longer: 0 changes, then 1"),
+    ]),
+    "what a distinct keeps": ([], [
+        V4, DISTINCT, do("feed", p=0, vertex="a", values=[0], next="close"),
+        do("take", p=0, edge="ad", time=[0], value=0), do("effect", to=2), do("run", limit=99),
+        do("effect", to=6), do("jump", to=6), do("why", q=0, at="z", time=[0]),
+    ], 0, [
+        (5, "d on processor 0 has seen 0 at (0)"), (7, "d on processor 0 forgets 0 at (0)"),
+        (9, "it still counts 1 at d (0); nothing is held there; not heard: an update of -1 by processor 0, "
+            "not yet broadcast in truth z (0) is finished: no processor has anything at or before it"),
     ]),
     "conditions put together": (["--processors", "2"], [
         V4, LINE, do("break", when={"all": [
@@ -536,7 +553,7 @@ TOLD = {
         (4, "warning: what is said of it always holds: there is no processor 3"),
         (5, "warning: what is said of it always holds"),
         (6, '31 BadShape: "all" has 0 conditions; it may have 1 to 8'),
-        (7, "at position 0 it does not hold and that stays so"),
+        (7, "at position 0 it does not hold and that does not change up to position 0"),
         (7, "at which of the positions 0 to 0 does it begin or cease to hold that at least 1 of records"),
         (10, "at position 0 it does not hold it begins to hold at 1"), (11, "50 BadRange"),
         (12, 'the key "at_least" of "view" is missing'),
@@ -569,9 +586,10 @@ TOLD = {
             "never notified"),
         (7, "left: processor 0, capability at h (0): 53 NotNotified: h is a hold: it is never notified, and "
             "holds its capability until a release"),
-        (8, "0 steps of 1 may be executed processor 0 runs the notice of h (0): refused, 53 NotNotified: h "
-            "is a hold"),
-        (9, "it still counts 1 at h (0); held there: the capability of processor 0 it is not finished"),
+        (8, "0 steps of 1 may be executed processor 0 runs the notification of h (0): refused, 53 "
+            "NotNotified: h is a hold"),
+        (9, "it still counts 1 at h (0); held there: the capability of processor 0 in truth z (0) is not "
+            "finished"),
         (10, "refused, 53 NotNotified: h is a hold: it is never notified"),
         (11, "processor 0 moves the capability that it holds at h (0) to (0)"),
         (11, "refused, 54 NotLater: (0) is not strictly after (0)"),
@@ -671,7 +689,7 @@ TOLD = {
     ]),
     # several clients
     "clients": (["--clients", "2"], CLIENTS, 0, [
-        (2, "line 2, client 0: processor 0 feeds 5 into a"), (3, "back over the last step"),
+        (2, "line 2, client 0: processor 0 feeds 5 into a"), (3, "undo the last step"),
         (3, "the cursor is at 0 of 1 kept step"),
     ]),
     "a client's number": (["--clients", "2"], [*CLIENTS, '{"client":2,"do":"back"}'], 2,

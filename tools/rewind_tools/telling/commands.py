@@ -27,12 +27,17 @@ def counted(count, thing):
     return f"{count} {thing}" + "s" * (count != 1)
 
 
+def record(value):
+    """A record, by its value."""
+    return f"record of value {value}"
+
+
 def some_of(items):
     """The items in a list of words, cut if there are many."""
     items = list(map(str, items))
     if len(items) <= MOST:
         return listed(items) if items else "nothing"
-    return ", ".join(items[:MOST]) + f", .. ({len(items)} in all)"
+    return ", ".join(items[:MOST]) + f", ... ({len(items)} in all)"
 
 
 def processors(numbers):
@@ -76,7 +81,7 @@ def broadcast(it):
 
 def search(it):
     where = f"at which of the positions {it['lo']} to {it['hi']} first: {condition(it['when'])}?"
-    return f"{where} ({counted(it['workers'], 'worker')})"
+    return f"{where} ({counted(it['workers'], 'thread')})"
 
 
 def turns(it):
@@ -127,19 +132,21 @@ def atom(name, it):
 
 WORDS = {
     "feed": feed,
-    "take": lambda it: f"processor {it['p']} takes {it['value']} off {at(it['edge'], it['time'])}",
-    "notice": lambda it: f"processor {it['p']} runs the notice of {at(it['vertex'], it['time'])}",
+    "take": lambda it: (
+        f"processor {it['p']} takes a {record(it['value'])} from {at(it['edge'], it['time'])}"
+    ),
+    "notice": lambda it: f"processor {it['p']} runs the notification of {at(it['vertex'], it['time'])}",
     "release": release,
     "broadcast": broadcast,
     "receive": lambda it: (
         f"processor {it['to']} receives the first change on its way from processor {it['from']}"
     ),
-    "back": lambda it: "back over the last step",
-    "redo": lambda it: "make the kept step behind the cursor again",
+    "back": lambda it: "undo the last step",
+    "redo": lambda it: "execute the kept step after the cursor again",
     "jump": lambda it: f"jump to position {it['to']}",
     "run": run,
     "break": lambda it: f"set a breakpoint: {condition(it['when'])}",
-    "unbreak": lambda it: f"take breakpoint {it['id']} out",
+    "unbreak": lambda it: f"remove breakpoint {it['id']}",
     "state": lambda it: "what is the state?",
     "count": lambda it: f"how many records, requests and tokens are at {at(it['at'], it['time'])}?",
     "before": lambda it: f"could something at {at(*it['from'])} result in something at {at(*it['to'])}?",

@@ -25,20 +25,21 @@ def request(it):
     p, vertex, time, _, new = it
     there = at(vertex, time)
     return (
-        f"processor {p} asks for a notice at {there}"
+        f"processor {p} asks for a notification at {there}"
         if new
-        else f"processor {p} asks for no notice at {there} any more"
+        else f"processor {p} no longer asks for a notification at {there}"
     )
 
 
-def item(it):
+def item(it, distincts):
+    """What a vertex keeps for a time: a sum as item 0, or the values that a distinct has seen as items."""
     p, vertex, time, number, old, new = it
-    kept = f"{vertex} of processor {p} keeps {{}} for {number} at {time_in(time)}"
+    here, there = f"{vertex} on processor {p}", f"at {time_in(time)}"
+    if number or vertex in distincts:
+        return f"{here} {'forgets' if new is None else 'has seen'} {number} {there}"
     if new is None:
-        return (
-            f"{vertex} of processor {p} keeps nothing for {number} at {time_in(time)} any more; it was {old}"
-        )
-    return kept.format(new) + ("" if old is None else f" in place of {old}")
+        return f"{here} gives up its sum {old} {there}"
+    return f"{here} has the sum {new} {there}" + ("" if old is None else f" in place of {old}")
 
 
 def queue(it):
@@ -51,19 +52,25 @@ def queue(it):
 
 KINDS = {
     "tokens": token,
-    "records": lambda it: f"records {it[3]} of processor {it[0]} at {at(*it[1:3])}: {turned(*it[4:])}",
+    "records": lambda it: (
+        f"records of value {it[3]} on processor {it[0]} at {at(*it[1:3])}: {turned(*it[4:])}"
+    ),
     "requests": request,
-    "items": item,
-    "sinks": lambda it: f"{it[1]} of processor {it[0]} has counted {it[2]}: {turned(*it[3:])}",
-    "unsent": lambda it: f"unsent of processor {it[0]} at {at(*it[1:3])}: {turned(*it[3:])}",
+    "items": lambda it: item(it, NO_HOLDS),
+    "sinks": lambda it: f"{it[1]} on processor {it[0]} has counted the value {it[2]}: {turned(*it[3:])}",
+    "unsent": lambda it: f"unsent on processor {it[0]} at {at(*it[1:3])}: {turned(*it[3:])}",
     "queues": queue,
     "views": lambda it: f"the view of processor {it[0]} at {at(*it[1:3])}: {turned(*it[3:])}",
 }
 
 
-def effect_words(changed, holds=NO_HOLDS):
-    """A sentence for each place that the step changed, the tokens, records and requests first; 'holds' has
-    the names of the hold vertices."""
-    kinds = {**KINDS, "requests": lambda it: capability(it) if it[1] in holds else request(it)}
+def effect_words(changed, holds=NO_HOLDS, distincts=NO_HOLDS):
+    """A sentence for each place that the step changed, the tokens, records and requests first; 'holds' and
+    'distincts' have the names of the vertices of these operators."""
+    kinds = {
+        **KINDS,
+        "requests": lambda it: capability(it) if it[1] in holds else request(it),
+        "items": lambda it: item(it, distincts),
+    }
     said = [words(it) for kind, words in kinds.items() for it in changed[kind]]
     return said or ["nothing"]

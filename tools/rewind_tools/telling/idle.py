@@ -3,7 +3,7 @@ own refusals."""
 import json
 
 from rewind_tools.runs import answers_after
-from rewind_tools.telling.commands import at, processor_of, processors
+from rewind_tools.telling.commands import at, processor_of, processors, record
 
 MOST_SHOWN = 12
 NOTHING_LEFT = "no record, request, unsent entry or change on its way"
@@ -20,9 +20,9 @@ def steps_left(state, holds):
                 "edge": edge,
                 "time": time,
                 "value": value,
-            }, f"record {value} at {at(edge, time)}"
+            }, f"{record(value)} at {at(edge, time)}"
         for vertex, time in it["requests"]:
-            kind = "capability at" if vertex in holds else "notice of"
+            kind = "capability at" if vertex in holds else "notification of"
             yield {"do": "notice", "p": p, "vertex": vertex, "time": time}, f"{kind} {at(vertex, time)}"
         if it["unsent"]:
             yield {"do": "broadcast", "p": p}, "what is unsent"

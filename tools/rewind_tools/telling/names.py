@@ -14,9 +14,9 @@ SEVERAL = 8
 WANTED = {id(VERTEX): "vertex", id(EDGE): "edge", id(PLACE): "place"}
 
 
-def holds_of(graph):
-    """The names of a graph's hold vertices."""
-    return {it["name"] for it in graph["vertices"] if it["op"] == "hold"}
+def holds_of(graph, op="hold"):
+    """The names of a graph's hold vertices, or of those of another operator."""
+    return {it["name"] for it in graph["vertices"] if it["op"] == op}
 
 
 class Graph:
@@ -26,7 +26,7 @@ class Graph:
         self.value, self.version = value, version
         self.vertices = {it["name"]: it for it in value["vertices"]}
         self.edges = {it["name"]: it for it in value["edges"]}
-        self.holds = holds_of(value)
+        self.holds, self.distincts = holds_of(value), holds_of(value, "distinct")
         self.order = {name: at for at, name in enumerate([*self.vertices, *self.edges])}
 
     def named(self, wanted):
@@ -34,8 +34,8 @@ class Graph:
         of_kind = {"vertex": self.vertices, "edge": self.edges}
         return list(of_kind.get(wanted, self.order))
 
-    def worker(self, value):
-        """The vertex at which a take or a notice does its work."""
+    def vertex_of(self, value):
+        """The vertex that a take or a notice runs."""
         name = self.edges[value["edge"]]["to"] if "edge" in value else value["vertex"]
         return vertex_words(self.vertices[name])
 

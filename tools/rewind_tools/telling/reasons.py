@@ -17,7 +17,9 @@ def held_words(held, holds):
     """All that is held at a point: its records by processor, then the requests, which at a hold vertex are
     capabilities, and the tokens."""
     records = [
-        f"{counted(it['n'], 'record')} {it['value']} of processor {it['p']}" for it in held if "edge" in it
+        f"{counted(it['n'], 'record')} of value {it['value']} on processor {it['p']}"
+        for it in held
+        if "edge" in it
     ]
     for kind in ("request", "token"):
         there = [it for it in held if kind in it]
@@ -27,10 +29,12 @@ def held_words(held, holds):
 
 
 def unheard_word(it):
+    """An update that was not received, and where it is."""
+    update = f"an update of {it['n']} by processor {it['p']}"
     if "behind" not in it:
-        return f"{it['n']} of processor {it['p']}, which has not sent it"
-    place = f"behind {counted(it['behind'], 'change')}" if it["behind"] else "first"
-    return f"{it['n']} of processor {it['p']}, {place} on its way"
+        return f"{update}, not yet broadcast"
+    place = f"after {counted(it['behind'], 'change')}" if it["behind"] else "first"
+    return f"{update}, {place} in its queue"
 
 
 def reason_words(reason, holds=NO_HOLDS):
@@ -49,5 +53,6 @@ def why_words(value, reply, holds=NO_HOLDS):
     if reply["passed"]:
         return [f"processor {q} knows that {there} is finished"]
     first, *others = (reason_words(it, holds) for it in reply["reasons"])
-    truth = "it is finished all the same" if reply["finished"] else "it is not finished"
+    rest = "finished: no processor has anything at or before it" if reply["finished"] else "not finished"
+    truth = f"in truth {there} is {rest}"
     return [f"processor {q} does not know that {there} is finished: {first}", *others, truth]

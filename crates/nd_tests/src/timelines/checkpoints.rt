@@ -4,9 +4,9 @@ use crate::timelines::memory::Heap;
 use crate::timelines::run_all;
 use nd_breaks::Breaks;
 use nd_cluster::{Next, Step, Values};
-use nd_examples::{ENDLESS, Told, is_state, start, state_text, step_of};
+use nd_examples::{ENDLESS, Told, start, step_of};
 use nd_testing::{MANY, Refusing};
-use nd_timeline::{Fault, Timeline};
+use nd_timeline::Timeline;
 use std::alloc::{Allocator, Global};
 
 /// Returns a timeline on a loop that never ends, with a record in it.
@@ -20,19 +20,7 @@ fn looped<A: Allocator + Copy>(json: Global, alloc: A) -> Option<Timeline<A>> {
     Some(timeline)
 }
 
-/// Returns whether the timeline has the state to which its kept steps up to the cursor lead from its base.
-fn is_led_to<A: Allocator + Copy>(json: Global, alloc: A, timeline: &Timeline<A>) -> Option<bool> {
-    let mut other = Timeline::new(alloc, timeline.base().copy(alloc).ok()?).ok()?;
-    for i in 0..timeline.at() {
-        other.forward(timeline.step(i)?).ok()?;
-    }
-    let wanted = state_text(json, other.cluster())?;
-    Some(is_state(json, timeline.cluster(), wanted.as_str()))
-}
-
 /// Returns whether a run over a position where a checkpoint is due met the refused request, and whether the run continued.
-///
-/// Returns `None` if the timeline is not at the reported position, or if the run stopped although it met no refusal.
 fn meets_run<A: Allocator + Copy>(
     heap: &Heap,
     json: Global,
@@ -40,21 +28,23 @@ fn meets_run<A: Allocator + Copy>(
     n: u64,
 ) -> Option<(bool, bool)> {
     let mut timeline = looped(json, alloc)?;
-    run_all(&mut timeline, 1020, &Breaks::new(alloc).ok()?).ok()?;
     let breaks = Breaks::new(alloc).ok()?;
+    run_all(&mut timeline, 1020, &breaks).ok()?;
     heap.refuse(n);
-    let ran = run_all(&mut timeline, 10, &breaks);
-    let met = heap.relent(n);
-    let goes_on = ran.is_ok();
-    let is_said = match ran {
-        Ok(_) => timeline.at() == 1032,
-        Err(fault) => met && fault == Fault::Memory { at: timeline.at() },
-    };
-    if is_said && is_led_to(json, alloc, &timeline)? {
-        Some((met, goes_on))
-    } else {
-        None
-    }
+    let goes_on = run_all(&mut timeline, 10, &breaks).is_ok();
+    Some((heap.relent(n), goes_on))
+}
+
+/// Does the same for a jump over 1,500 steps, which begins at a checkpoint.
+fn meets_jump<A: Allocator + Copy>(
+    heap: &Heap,
+    timeline: &mut Timeline<A>,
+    n: u64,
+) -> Option<(bool, bool)> {
+    timeline.jump(2600).ok()?;
+    heap.refuse(n);
+    let goes_on = timeline.jump(1100).is_ok();
+    Some((heap.relent(n), goes_on))
 }
 
 /// Returns how many refusals were unnoticed before the first of such runs that met none.
@@ -63,46 +53,24 @@ fn unnoticed_in_runs<A: Allocator + Copy>(heap: &Heap, json: Global, alloc: A) -
     for n in 0..MANY {
         let (met, goes_on) = meets_run(heap, json, alloc, n)?;
         if !met {
-            return Some(count);
+            return if goes_on { Some(count) } else { None };
         }
-        if goes_on {
-            count = count.saturating_add(1);
-        }
+        count = count.saturating_add(u64::from(goes_on));
     }
     None
 }
 
-/// Does the same for jumps over 1,500 steps of one timeline, which begin at a checkpoint.
+/// Does the same for such jumps in one timeline.
 fn unnoticed_in_jumps<A: Allocator + Copy>(heap: &Heap, json: Global, alloc: A) -> Option<u64> {
     let mut timeline = looped(json, alloc)?;
     run_all(&mut timeline, 2598, &Breaks::new(alloc).ok()?).ok()?;
-    timeline.jump(1100).ok()?;
-    if !is_led_to(json, alloc, &timeline)? {
-        return None;
-    }
-    let wanted = state_text(json, timeline.cluster())?;
     let mut count: u64 = 0;
     for n in 0..MANY {
-        timeline.jump(2600).ok()?;
-        heap.refuse(n);
-        let jumped = timeline.jump(1100);
-        let met = heap.relent(n);
-        match jumped {
-            Ok(()) => {
-                if timeline.at() != 1100 || !is_state(json, timeline.cluster(), wanted.as_str()) {
-                    return None;
-                }
-                count = count.saturating_add(u64::from(met));
-            }
-            Err(fault) => {
-                if !met || fault != (Fault::Memory { at: timeline.at() }) {
-                    return None;
-                }
-            }
-        }
+        let (met, goes_on) = meets_jump(heap, &mut timeline, n)?;
         if !met {
-            return Some(count);
+            return if goes_on { Some(count) } else { None };
         }
+        count = count.saturating_add(u64::from(goes_on));
     }
     None
 }

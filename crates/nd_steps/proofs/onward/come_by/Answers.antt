@@ -20,14 +20,15 @@ returns-in_err-i-clause-passes g c = λ on.
     let e = c.args.emission.now in
     absurd (c.in_err-i.ensures.none refl (ap (λ (es : List Edge). length (leaving by.vertex e.port 0 es)) c.edges.ensures.edges ∙ left_once by.graph.now by.n by.p by.vertex e on.0 on.1))
 
-pub returns-then-is_at-clause-passes : goal.returns-then-is_at-clause-passes
-returns-then-is_at-clause-passes g c = λ on.
+pub returns-then-comes_back-clause-passes : goal.returns-then-comes_back-clause-passes
+returns-then-comes_back-clause-passes g c = λ on.
     let by = c.args.by.now in
     let e = c.args.emission.now in
     let gone = c.args.gone.now in
     let only : leaving by.vertex e.port 0 by.graph.now.edges ≡ (c.in_ok-i.i, c.in_ok-i.route) ∷ [] = ap (leaving by.vertex e.port 0) (sym c.edges.ensures.edges) ∙ c.in_ok-i.ensures.one in
-    let same : c.key.result.point ≡ gone.point = tells_apart point_exact c.key.result.point gone.point (sym c.is_at.ensures ∙ c.if-is_at.true) in
-    let comes = c.key.ensures ∙ ap (come_key gone) c.record_on-come.ensures in
+    let come = c.record_on-come.result in
+    let same : (come_key gone come).point ≡ gone.point = tells_apart point_exact (come_key gone come).point gone.point (sym c.comes_back.ensures ∙ c.if-comes_back.true) in
+    let comes = ap (come_key gone) c.record_on-come.ensures in
     absurd (on.2 (made_at by.graph.now by.n by.p by.vertex e on.0 (c.in_ok-i.i, c.in_ok-i.route) on.1 only
     ∙ sym (c.edge_at-edge.ensures ∙ ap (λ l. l + c.in_ok-i.i) c.first_edge.ensures.first)
     ∙ sym (ap (λ (x : ValueAt). x.point.location) comes)
@@ -47,7 +48,7 @@ returns-clause-comes g c =
       is = c.record_on-come.ensures ∙ ap (λ a. Record a to edge e.value) c.action_at-action.ensures;
       made = one_made by.graph.now by.n by.p by.vertex e (c.in_ok-i.i, c.in_ok-i.route) only to edge (λ i. to) (c.edge_at-edge.ensures ∙ ap (λ l. l + c.in_ok-i.i) c.first_edge.ensures.first);
       apart = λ same. true≢false (sym (same_key point_total gone.point)
-          ∙ ap (λ x. eq_by_cmp point_cmp x gone.point) (sym (ap (λ (x : ValueAt). x.point) c.key.ensures ∙ same))
-          ∙ sym c.is_at.ensures ∙ c.if-is_at.false);
+          ∙ ap (λ x. eq_by_cmp point_cmp x gone.point) (sym same)
+          ∙ sym c.comes_back.ensures ∙ c.if-comes_back.false);
       deep = subst (λ m. m ≤ max_depth) c.depth.ensures.value c.depth.ensures.small;
     }

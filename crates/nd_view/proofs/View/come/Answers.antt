@@ -7,15 +7,22 @@ use Rattle.nd_delta.specs.Delta.{set}
 use Rattle.nd_view.specs.Kept.{IsFor, IsReady, kept_of}
 use Rattle.nd_view.specs.Rows.{joined}
 use Rattle.nd_view.proofs.Anew.{few_counts}
-use Rattle.nd_view.proofs.Fors.{taken_out}
+use Rattle.nd_view.proofs.Fors.{kept_none, taken_out}
 use Rattle.nd_view.proofs.Moves.{ready_up}
 use Rattle.nd_view.proofs.View.come.Given.{Over}
 use Rattle.nd_view.proofs.View.come.Goals as goal
 
-pub put-requires : goal.put-requires
-put-requires g c =
+pub put-requires-clause-most : goal.put-requires-clause-most
+put-requires-clause-most g c =
     let few = few_counts c.args.paths.now c.self.inside.counts (joined c.self.inside.precursor_counts) (subst (IsFor c.args.paths.now) (sym c.self.view_is) c.requires.paths) in
     omega (arith, few, c.len-most.ensures)
+
+pub put-requires-clause-fresh : goal.put-requires-clause-fresh
+put-requires-clause-fresh g c =
+    let d = c.args.paths.now in
+    let x = c.args.point.now in
+    let v = c.args.self.now in
+    ap (λ k. find point_cmp x k.counts) c.self.view_is ∙ kept_none d v.map x (find point_cmp x v.counts) (c.requires.paths.each x) c.requires.was
 
 pub shift-requires : goal.shift-requires
 shift-requires g c = λ q.

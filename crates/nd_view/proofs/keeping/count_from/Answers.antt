@@ -40,7 +40,7 @@ loop-k-init g c =
 pub is_strictly_before-requires : goal.is_strictly_before-requires
 is_strictly_before-requires g c = λ yes s t from to.
     let both = in_run c.row-row.result.now c.row-row.ensures.listed c.row-row.ensures.run 0 c.loop-k.k c.index-row-0-then-leads.result c.index-row-k.result (omega arith) c.loop-k-test.true c.index-row-0-then-leads.is c.index-row-k.is in
-    c.is_epochal-is_epochal.ensures yes s t (from ∙ ap (λ e. e.0.location) (sym c.index-row-k.is) ∙ sym both.0 ∙ ap (λ e. e.0.location) c.index-row-0-then-leads.is) to
+    c.is_epochal-is_epochal.ensures.epochal yes s t (from ∙ ap (λ e. e.0.location) (sym c.index-row-k.is) ∙ sym both.0 ∙ ap (λ e. e.0.location) c.index-row-0-then-leads.is) to
 
 -- an entry strictly before the point counts
 one_more : (g : Over) (c : Else-epoch g) → IsStrictlyBefore c.args.paths.now c.index-row-k.result.0 c.args.point.now

@@ -4,12 +4,20 @@ use Rattle.std.specs.Map.Iter.{deref_pair}
 use Rattle.std.proofs.lemmas.Map.Iter.{rest_more}
 use Rattle.nd_paths.specs.declared.point.Pointstamp.{Pointstamp}
 use Rattle.nd_view.specs.Rows.{joined}
-use Rattle.nd_view.proofs.Anew.{IsPickedUpTo, picked_none, picked_skip, picked_take, picked_all}
+use Rattle.nd_view.proofs.Anew.{IsPickedUpTo, picked_none, picked_skip, picked_take, picked_fresh, picked_all}
 use Rattle.nd_view.proofs.keeping.positive_points.Goals as goal
 
 pub loop-point-init : goal.loop-point-init
 loop-point-init g c =
     picked_none c.args.counts.now c.into_iter-point-iterator.result (joined c.new-positive.result) (c.into_iter-point-iterator.ensures.into_iter_gives ∙ c.iter-point-items.ensures.rest) (ap joined c.new-positive.ensures)
+
+pub put-requires-clause-fresh : goal.put-requires-clause-fresh
+put-requires-clause-fresh g c =
+    let m = c.args.counts.now in
+    let e : Pointstamp × ℤ = (c.in-Some.point.now, c.in-Some.n.now) in
+    let es = joined c.loop-point.positive in
+    let step : c.loop-point.point-iterator ≡ e ∷ c.next.new.self = rest_more deref_pair c.loop-point.point-iterator c.next.new.self c.next.result (c.in-Some.point, c.in-Some.n) c.in-Some.is c.next.ensures.steps in
+    picked_fresh m e c.next.new.self es (subst (λ l. IsPickedUpTo m l es) step c.loop-point.invariant)
 
 pub loop-point-preserved-in-Continue-1 : goal.loop-point-preserved-in-Continue-1
 loop-point-preserved-in-Continue-1 g c =

@@ -1,25 +1,28 @@
 use Rattle.std.proofs.Common.{◌≡◌, ◌<◌, ◌≤◌, ◌+◌, ◌-◌, List, length, sym, ◌∙◌, arith}
 use Rattle.nd_protocol.specs.State.{ClusterState}
 use Rattle.nd_steps.specs.declared.change.Change.{Change}
-use Rattle.nd_steps.proofs.RunsLemmas.{state_none, all_made, fits_now, next_here, fits_here, back_here}
+use Rattle.nd_steps.specs.Changes.{change_at}
+use Rattle.nd_steps.proofs.RunsLemmas.{same_at, state_none, all_made, fits_now, next_here, fits_here, back_here}
 use Rattle.nd_steps.proofs.parts.Parts.make_all.Goals as goal
 
 pub loop-i-init : goal.loop-i-init
 loop-i-init g c = sym (state_none c.args.self.now c.args.changes.now)
 
-pub make-requires : goal.make-requires
-make-requires g c =
+pub make_at-requires : goal.make_at-requires
+make_at-requires g c =
     let s : ClusterState = c.args.self.now in
     let cs : List Change = c.args.changes.now in
-    let lt : c.loop-i.i < length cs = omega (arith, c.loop-i-test.true, c.len-count.ensures) in
-    fits_now s cs c.requires c.loop-i.i c.get-change.result c.get-change.ensures lt c.loop-i.self c.loop-i.invariant
+    let i = c.loop-i.i in
+    let lt : i < length cs = omega (arith, c.loop-i-test.true, c.len-count.ensures) in
+    record { there = lt; fits = fits_now s cs c.requires i (change_at cs i) (same_at cs i _ _ lt) lt c.loop-i.self c.loop-i.invariant }
 
 pub loop-i-preserved : goal.loop-i-preserved
 loop-i-preserved g c =
     let s : ClusterState = c.args.self.now in
     let cs : List Change = c.args.changes.now in
     let lt : c.loop-i.i < length cs = omega (arith, c.loop-i-test.true, c.len-count.ensures) in
-    c.in-Ok.ensures.ok ∙ next_here s cs c.requires c.loop-i.i c.get-change.result c.get-change.ensures lt c.loop-i.self c.loop-i.invariant
+    let i = c.loop-i.i in
+    c.in-Ok.ensures.ok ∙ next_here s cs c.requires i (change_at cs i) (same_at cs i _ _ lt) lt c.loop-i.self c.loop-i.invariant
 
 pub undo-requires : goal.undo-requires
 undo-requires g c =

@@ -13,7 +13,7 @@ pub set_right-requires-clause-room : goal.set_right-requires-clause-room
 set_right-requires-clause-room g c =
     let more = size_grown (joined c.self.inside.counts) (joined c.put.new.self) c.args.point.now c.args.n c.put.ensures.was_listed c.in_ok-put.ensures.ok in
     let same = ap (λ rows. length (joined rows)) c.self.view_is in
-    omega (arith, more, same, c.requires, c.in_ok-reserve.ensures.ok, c.saturating_sub.ensures, c.len.ensures)
+    omega (arith, more, same, c.requires.most, c.in_ok-reserve.ensures.ok, c.saturating_sub.ensures, c.len-2.ensures)
 
 pub set_right-requires-clause-others : goal.set_right-requires-clause-others
 set_right-requires-clause-others g c =
@@ -29,9 +29,11 @@ set_right-requires-clause-zero g c =
     zero_told c.args.n (find point_cmp p (joined c.put.new.self)) (ap (find point_cmp p) c.in_ok-put.ensures.ok ∙ found_put p p c.args.n (joined c.self.inside.counts) refl)
 
 pub set_right-requires-clause-fresh : goal.set_right-requires-clause-fresh
-set_right-requires-clause-fresh g c = λ never among.
+set_right-requires-clause-fresh g c = λ _ among.
     let p = c.args.point.now in
-    never (c.is_zero_at-was_zero.ensures.zero.1 (c.self.invariant.only p (subst (λ l. Contains l p) c.reserve.ensures.items among)))
+    let zero = c.self.invariant.only p (subst (λ l. Contains l p) c.reserve.ensures.items among) in
+    let absent = ap (λ rows. find point_cmp p (joined rows)) c.self.view_is ∙ c.requires.fresh in
+    cc (zero, absent)
 
 pub returns-clause-ok : goal.returns-clause-ok
 returns-clause-ok g c = c.in_ok-put.ensures.ok ∙ ap (λ rows. put point_cmp c.args.point.now c.args.n (joined rows)) c.self.view_is

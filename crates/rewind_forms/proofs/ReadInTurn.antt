@@ -1,0 +1,50 @@
+-- Lists that are read item by item.
+use Rattle.std.proofs.Common.{◌≡◌, ◌∙◌, ℕ, ◌+◌, ◌<◌, ◌≤◌, List, [], ◌∷◌, ◌++◌, length, drop, get_or, map, refl, sym, ap, append_assoc, Option, Some, None, option_map, option_and_then}
+use Rattle.std.proofs.lemmas.List.{append-nil, at_drop_all, at_drop_more}
+use Rattle.nd_graph.specs.Draft.{every}
+
+-- the items that were read, followed by the others
+abbrev after : {X : Type 0} → List X → Option (List X) → Option (List X)
+after xs rest = option_map (λ ys. xs ++ ys) rest
+
+after-more : {X : Type 0} (xs : List X) (x : X) (rest : Option (List X)) → after xs (option_map (λ ys. x ∷ ys) rest) ≡ after (xs ++ x ∷ []) rest
+after-more xs x None = refl
+after-more xs x (Some ys) = ap Some (sym (append_assoc xs (x ∷ []) ys))
+
+after-none : {X : Type 0} (rest : Option (List X)) → rest ≡ after [] rest
+after-none None = refl
+after-none (Some ys) = refl
+
+module _ {V D X : Type 0} (seen : V → D) (read : D → Option X) (vs : List V) where
+  -- no item is read yet
+  pub read_start : (xs : List X) → xs ≡ [] → every read (map seen vs) ≡ option_map (λ ys. xs ++ ys) (every read (map seen (drop 0 vs)))
+  read_start xs none = after-none (every read (map seen vs)) ∙ ap (λ ys. after ys (every read (map seen vs))) (sym none)
+
+  -- the next item is read
+  next : (v : V) (i : ℕ) (xs : List X) (o : Option X) → i < length vs → v ≡ get_or vs i v → read (seen v) ≡ o
+      → after xs (every read (map seen (drop i vs)))
+      ≡ after xs (option_and_then (λ x. option_map (λ ys. x ∷ ys) (every read (map seen (drop (i + 1) vs)))) o)
+  next v i xs o lt is here =
+      let rest = λ (p : Option X). after xs (option_and_then (λ x. option_map (λ ys. x ∷ ys) (every read (map seen (drop (i + 1) vs)))) p) in
+      at_drop_more (λ ws. after xs (every read (map seen ws))) vs i v lt
+      ∙ ap (λ w. rest (read (seen w))) (sym is)
+      ∙ ap rest here
+
+  pub read_more : (v : V) (i : ℕ) (xs : List X) (x : X) → i < length vs → v ≡ get_or vs i v → read (seen v) ≡ Some x
+      → every read (map seen vs) ≡ option_map (λ ys. xs ++ ys) (every read (map seen (drop i vs)))
+      → every read (map seen vs) ≡ option_map (λ ys. (xs ++ x ∷ []) ++ ys) (every read (map seen (drop (i + 1) vs)))
+  read_more v i xs x lt is here before =
+      before ∙ next v i xs (Some x) lt is here ∙ after-more xs x (every read (map seen (drop (i + 1) vs)))
+
+  -- the next item cannot be read
+  pub read_none : (v : V) (i : ℕ) (xs : List X) → i < length vs → v ≡ get_or vs i v → read (seen v) ≡ None
+      → every read (map seen vs) ≡ option_map (λ ys. xs ++ ys) (every read (map seen (drop i vs)))
+      → None ≡ every read (map seen vs)
+  read_none v i xs lt is here before = sym (before ∙ next v i xs None lt is here)
+
+  -- all items are read
+  pub read_all : (i : ℕ) (xs : List X) → length vs ≤ i
+      → every read (map seen vs) ≡ option_map (λ ys. xs ++ ys) (every read (map seen (drop i vs)))
+      → Some xs ≡ every read (map seen vs)
+  read_all i xs all before =
+      sym (before ∙ at_drop_all (λ ws. after xs (every read (map seen ws))) vs i all ∙ ap Some (append-nil xs))

@@ -1,0 +1,163 @@
+"""From the stuck program to the reason and on, by the questions that the page asks."""
+import json
+import unittest
+
+from live_tests.served import Served, chain, feed, lines_for, of_class, opening_of, stuck
+from rewind_tools import runs
+from rewind_tools.live.server import Live
+from rewind_tools.session import Session
+
+
+class Stuck(unittest.TestCase):
+    @classmethod
+    def setUpClass(cls):
+        cls.live = of_class(cls, stuck())
+
+    def test_way_to_the_reason(self):
+        shown = self.live.asked("picture", {})["picture"]
+        self.assertEqual((shown["at"], shown["kept"]), (11, 11))
+        waiting = [it for it in shown["candidates"]["items"] if it["kind"] == "notice" and it["p"] == 0]
+        self.assertTrue(len(waiting) == 1 and "NotYet" in waiting[0]["refused"], waiting)
+        why = self.live.asked("why", waiting[0]["ask"])
+        self.assertIn("the token of processor 1", why["reasons"][0]["words"])
+        fed = self.live.command({"do": "feed", "p": 1, "vertex": "words", "values": [], "next": "next"})
+        self.assertTrue(fed["picture"]["at"] == 12 and not fed["refused"], fed["words"])
+        self.assertTrue(any("goes from epoch 0 to 1" in it for it in fed["picture"]["effect"]["words"]))
+        self.way_on()
+
+    def way_on(self):
+        ran = self.live.command({"do": "run", "limit": 100})
+        self.assertEqual(ran["picture"]["state"]["places"]["2"]["n"], "2")
+        steps = ran["picture"]["steps"]
+        self.assertEqual(
+            [it["position"] for it in steps["items"]], list(range(1, ran["picture"]["kept"] + 1))
+        )
+        messages = steps["messages"]
+        self.assertTrue(
+            len(messages) >= 5 and all(it[2] is None or it[3] is None or it[2] < it[3] for it in messages)
+        )
+        back = self.live.command({"do": "jump", "to": 12})["picture"]
+        self.assertTrue(back["at"] == 12 and back["kept"] == ran["picture"]["kept"], back["kept"])
+        when = {"passed": {"q": 0, "at": "out", "time": [0]}}
+        turns = self.live.asked("picture", {"sight": {"when": when}})["picture"]["turns"]
+        self.assertTrue(
+            turns["at_lo"] is False and len(turns["turns"]) == 1 and turns["to"] == back["kept"], turns
+        )
+        late = self.live.post("command", {"line": '{"do":"back"}', "revision": 0})
+        self.assertTrue(late[0] == 409 and "another tab" in late[2], late)
+        self.saved()
+
+    def saved(self):
+        """The saved script leads to the session's state."""
+        told = self.live.asked("save", {})
+        ran = runs.run_script(told["script"].encode(), told["words"])
+        self.assertFalse([it.reply for it in ran.entries if "error" in it.reply])
+        self.assertEqual(ran.entries[-1].reply["at"], 12)
+
+    def test_earliest_time(self):
+        """A place without a time is asked about at the earliest time that can still arrive there."""
+        with Served([*opening_of("stuck-program", 2), json.dumps(feed([], vertex="words"))]) as live:
+            live.command({"do": "run", "limit": 100})
+            why = live.asked("why", {"q": 0, "at": "out", "time": None})
+            self.assertEqual((why["time"], why["times"], why["passed"]), ([1], "(1)", False))
+            live.command({"do": "feed", "p": 0, "vertex": "words", "values": [], "next": "close"})
+            live.command({"do": "run", "limit": 100})
+            why = live.asked("why", {"q": 0, "at": "out", "time": None})
+            self.assertEqual((why["time"], why["times"], why["passed"]), ([0], "", True))
+
+    def test_wrong_time(self):
+        why = self.live.asked("why", {"q": 0, "at": "out", "time": [0, 0]})
+        self.assertEqual(why["error"], "(0,0) is no time of out, where a time is the epoch alone")
+
+
+class Discarded(unittest.TestCase):
+    def test_brought_back(self):
+        """A step in the past discards the steps after it, says how many, and they can be brought back."""
+        with stuck() as live:
+            live.command({"do": "jump", "to": 9})
+            cut = live.command({"do": "feed", "p": 1, "vertex": "words", "values": [7], "next": "next"})
+            self.assertEqual(cut["discarded"], "2 kept steps discarded, which can be brought back")
+            self.assertEqual((cut["picture"]["kept"], cut["picture"]["dropped"]), (10, 1))
+            back = live.asked("bring-back", {"revision": cut["revision"], "sight": {}})
+            self.assertEqual((back["picture"]["at"], back["picture"]["kept"]), (9, 11))
+            late = live.post("bring-back", {"revision": 0, "sight": {}})
+            self.assertEqual(late[0], 409)
+
+
+class Numbers(unittest.TestCase):
+    def test_all_of_64_bits(self):
+        """A value at either end of 64 bits is fed, offered and taken as it is."""
+        graph, _ = chain(1, 0, 0)
+        with Served([json.dumps(graph)]) as live:
+            values = [9007199254740993, -9223372036854775808, 9223372036854775807]
+            fed = live.command(feed(values))
+            offered = [json.loads(it["line"]) for it in fed["picture"]["candidates"]["items"]]
+            self.assertEqual(sorted(it["value"] for it in offered if it["do"] == "take"), sorted(values))
+
+    def test_what_is_kept(self):
+        """What a sum keeps is named, and what a distinct has seen."""
+        with Served([*opening_of("stuck-program", 2), json.dumps(feed([4, 5], vertex="words"))]) as live:
+            shown = live.command({"do": "run", "limit": 2})["picture"]["state"]["processors"][0]
+            self.assertEqual(shown["kept by vertices"], ["total\u00a0(0): sum 9"])
+
+
+class Held(unittest.TestCase):
+    def test_held_capability(self):
+        """A held capability: what can be done with it; and runs of some processors."""
+        with Served(opening_of("held-capability", 4), ["--processors", "2"]) as live:
+            ran = live.command({"do": "run", "limit": 100, "only": [1]})
+            self.assertIn("nothing is enabled on processor 1", ran["words"][0])
+            enabled = [it for it in ran["picture"]["candidates"]["items"] if "refused" not in it]
+            self.assertEqual({it["p"] for it in enabled}, {0})
+            ran = live.command({"do": "run", "limit": 100})
+            shown = ran["picture"]["candidates"]["items"]
+            words = [f"processor {p} holds a capability at batch (0)" for p in (0, 1)]
+            self.assertEqual([it["words"] for it in shown], words)
+            self.assertTrue(all("stays until it is released" in it["refused"] for it in shown))
+            self.assertEqual(ran["picture"]["state"]["places"]["1"]["of"], "held")
+            why = live.asked("why", shown[0]["ask"])
+            self.assertIn("the capabilities of processors 0 and 1", why["reasons"][0]["words"])
+            self.released(live, [it["release"] for it in shown])
+
+    def released(self, live, held):
+        moved = live.command({**held[1], "to": [3]})
+        self.assertFalse(moved["refused"], moved["words"])
+        back = live.command({**held[0], "to": [0]})
+        self.assertTrue(back["refused"] and "54 NotLater" in back["words"][0], back["words"])
+        effect = live.command(held[0])["picture"]["effect"]["words"]
+        self.assertIn("processor 0 no longer holds a capability at batch (0)", effect)
+        live.command({"do": "run", "limit": 100})
+        why = live.asked("why", {"q": 0, "at": "out", "time": [2]})
+        self.assertTrue(why["passed"] and not why["reasons"], why)
+
+
+class Arrows(unittest.TestCase):
+    def test_arrows(self):
+        """The updates in sight on their way between processors are those that the effects of the steps
+        tell."""
+        graph, _ = chain(2, 0, 0)
+        session = Session(graph, ["--processors", "3"])
+        self.addCleanup(session.close)
+        live = Live(session, "arrows")
+        for at in range(40):
+            live.execute(lines_for([feed([at], p=at % 3), {"do": "broadcast", "p": at % 3}]))
+        live.execute(lines_for([{"do": "run", "limit": 150}]))
+        waiting, told = {}, []
+        for at in range(1, live.kept + 1):
+            for sender, receiver, old, new in session.ask({"do": "effect", "to": at})["changed"]["queues"]:
+                queue = waiting.setdefault((sender, receiver), [])
+                queue += [at] if new > old else []
+                told += [[sender, receiver, queue.pop(0), at]] if new < old else []
+        told += [[*ends, at, live.kept + 1] for ends, queue in waiting.items() for at in queue]
+        for cursor in (0, 1, 30, 31, 77, 110, 150, live.kept - 1, live.kept):
+            line = json.dumps({"do": "jump", "to": cursor})
+            jumped = live.answer("command", {"line": line, "revision": live.revision, "sight": {}})
+            shown = jumped["picture"]["steps"]
+            first, last = shown["first"], shown["first"] + len(shown["items"]) - 1
+            there = [
+                [p, q, begin if begin >= first else None, end if end <= last else None]
+                for p, q, begin, end in told
+                if p != q and (first <= begin <= last or first <= end <= last)
+            ]
+            with self.subTest(cursor):
+                self.assertEqual(sorted(map(str, shown["messages"])), sorted(map(str, there)))

@@ -1,0 +1,416 @@
+"""The page as a person uses it in a browser, by clicks and by keys."""
+import json
+import re
+import signal
+import time
+import unittest
+
+from live_tests.served import (
+    CHOOSE, POSITION, TEXT, Page, Served, ServedBy, Tunnel, chain, feed, needs_browser, opening_of, stuck,
+)  # fmt: skip
+from rewind_tools import runs
+from rewind_tools.testing import TOP
+
+VALUES, FEED = "#feed input", "#feed button"
+WARNS = "return document.getElementById('warning').open"
+# What a screen reader reads of an element: its own name, its label, or its text.
+NAME = """
+const it = document.querySelector(arguments[0]);
+const label = it.labels && it.labels[0] && it.labels[0].textContent.trim();
+return it.getAttribute("aria-label") || label || it.textContent;
+"""
+UNNAMED = """
+const hasLabel = (it) => it.labels && it.labels.length;
+const named = (it) => it.getAttribute("aria-label") || hasLabel(it) || it.textContent.trim();
+const all = document.querySelectorAll("button, input, select, [role=button]");
+return [...all].filter((it) => !named(it)).map((it) => it.outerHTML);
+"""
+# Steps back that wait behind a slow question.
+SLOW_QUESTION = """
+inTurn(() => new Promise((done) => { setTimeout(done, 3000); }));
+for (let at = 0; at < 3; at += 1) source.actions.back();
+"""
+# Keeps what the page says of its progress.
+WATCH = """
+window.seen = [];
+const it = by("progress");
+new MutationObserver(() => window.seen.push(it.textContent)).observe(it, { childList: true });
+"""
+
+
+def steps_of_page():
+    """The command and the quoted words of docs/LIVE.md's way to a reason."""
+    with open(f"{TOP}/docs/LIVE.md", encoding="utf-8") as it:
+        section = it.read().partition("## From a fresh clone to the reason")[2].partition("\n## ")[0]
+    command = re.search(r"```text\n\s*(.*)\n", section)[1]
+    return command, re.findall(r"(?<!`)`([^`\n]+)`(?!`)", section)
+
+
+@needs_browser
+class Ways(unittest.TestCase):
+    """The ways from a script to what it is about."""
+
+    def test_by_the_page(self):
+        """The way of docs/LIVE.md from the command to the reason and on: what it quotes the page says."""
+        command, quoted = steps_of_page()
+        position, notice, reason, fed, broadcast, receive, again = quoted
+        begun = time.monotonic()
+        with ServedBy(command) as live, Page(live) as page:
+            while page.run(TEXT, "cursor") != position:
+                at = page.run(POSITION)
+                page.press("left")
+                page.wait(lambda: page.run(POSITION) != at, "a step back")
+            page.click_text("#candidates button", notice)
+            page.says("why", reason)
+            seconds = time.monotonic() - begun
+            self.assertLess(seconds, 300)
+            print(
+                f"live: from the command to the reason by the steps of docs/LIVE.md: {seconds:.1f} seconds"
+            )
+            page.run(CHOOSE, 0, fed)
+            page.click(page.find(FEED))
+            page.wait(lambda: page.run(WARNS), "the warning")
+            page.click(page.find("#go-on"))
+            for words in (broadcast, receive, again):
+                at = page.wait(lambda: page.run(POSITION), "the step before")
+                page.click_text("#candidates button:not(.waits)", words)
+                page.wait(lambda: page.run(POSITION) != at, words)
+            page.says("effect", "runs the notification of total")
+            self.assertEqual(page.run(POSITION), "15")
+
+    def test_by_clicks(self):
+        """Load the stuck program, click the notice that waits, read why, let the others go on, and save."""
+        with stuck() as live, Page(live) as page:
+            page.at(11, "the page")
+            page.click_text("#candidates button", "runs the notification of total")
+            page.says("why", "the token of processor 1")
+            page.says("why", "in truth all that is strictly before total (0) is not finished")
+            page.run(CHOOSE, 0, "words of processor 1 (epoch 0)")
+            page.click(page.find(FEED))
+            page.at(12, "the feed")
+            page.click_text("#candidates button", "processor 1 broadcasts")
+            page.at(13, "the broadcast")
+            page.click_text(
+                "#candidates button", "processor 0 receives the first change on its way from processor 1"
+            )
+            page.at(14, "the receive")
+            page.click_text("#candidates button", "processor 0 runs the notification of total")
+            page.at(15, "the notification delivered")
+            page.press("left", "left")
+            page.at(13, "two steps back")
+            page.press("end")
+            page.at(15, "the end")
+            page.press("s")
+            script = page.wait(lambda: page.run("return document.body.dataset.saved"), "the saved script")
+            ran = runs.run_script(script.encode(), ["--processors", "2"])
+            self.assertEqual(ran.entries[-1].reply.get("at"), 15)
+
+    def test_by_keys(self):
+        """The same by keys alone: each button is reached by Tab."""
+        with stuck() as live, Page(live, 800, 800, True) as page:
+            page.press("left", "home")
+            page.at(0, "the start")
+            page.press("right", "end")
+            page.at(11, "the end")
+            for _ in range(200):
+                page.press("tab")
+                if "runs the notification of total" in page.run("return document.activeElement.textContent"):
+                    break
+            page.press("enter")
+            page.says("why", "the token of processor 1")
+            self.assertTrue(page.run("return document.documentElement.scrollWidth <= window.innerWidth"))
+
+    def test_releases(self):
+        """A held capability: click it, read why, move it, run one processor, release it."""
+        with Served(opening_of("held-capability", 6), ["--processors", "2"]) as live, Page(live) as page:
+            page.at(13, "the page")
+            page.click_text("#candidates button", "processor 1 holds a capability at batch (0)")
+            page.says("why", "the capability of processor 1")
+            self.assertEqual(page.run("return document.querySelector('#candidates form input').value"), "1")
+            page.click_text("#candidates form button", "move to")
+            page.at(14, "the move")
+            page.click_text("#only button", "0")
+            page.click(page.find("#run"))
+            page.at(16, "the run of processor 0")
+            page.says("said", "nothing is enabled on processor 0")
+            page.click_text("#candidates form button", "release")
+            page.at(17, "the release")
+            page.click_text("#only button", "0")
+            page.click(page.find("#run"))
+            page.says("candidates", "no step is left: every input is closed")
+
+    def test_every_input_closed(self):
+        graph, _ = chain(1, 0, 0)
+        with Served([json.dumps(graph), json.dumps(feed([], next="close"))]) as live, Page(live) as page:
+            page.click(page.find("#run"))
+            page.says("candidates", "no step is left: every input is closed")
+            page.says("feed", "every input is closed")
+
+
+@needs_browser
+class Feeding(unittest.TestCase):
+    def test_values_of_64_bits(self):
+        """Values that a browser's numbers would round are fed, and taken, as they are typed."""
+        graph, _ = chain(1, 0, 0)
+        with Served([json.dumps(graph)]) as live, Page(live) as page:
+            page.fill(VALUES, "9007199254740993 -9223372036854775808")
+            page.press("enter")
+            page.at(1, "the feed")
+            page.says("effect", "records of value 9007199254740993")
+            self.assertEqual(page.run("return document.querySelector(arguments[0]).value", VALUES), "")
+            page.click_text("#candidates button", "takes a record of value -9223372036854775808 from")
+            page.at(2, "the take")
+            page.says("effect", "takes a record of value -9223372036854775808 from")
+
+    def test_values_that_are_none(self):
+        """A value that is no number is named before anything is asked, and the field keeps its text."""
+        with stuck() as live, Page(live) as page:
+            page.press("home")
+            page.at(0, "the start")
+            for typed, said in (
+                ("2 x3 4", '"x3" is no whole number'),
+                ("9223372036854775808", "is not between"),
+            ):
+                page.fill(VALUES, typed)
+                page.press("enter")
+                page.says("said", said)
+                self.assertFalse(page.run(WARNS))
+                self.assertEqual(
+                    page.run("return document.querySelector(arguments[0]).value", VALUES), typed
+                )
+            self.assertEqual(page.run(POSITION), "0")
+
+    def test_refused(self):
+        """A feed that the program refuses keeps the field."""
+        with Served(opening_of("not-stepped", 2), ["--processors", "2"]) as live, Page(live) as page:
+            page.run(CHOOSE, 1, "advance to epoch")
+            page.run("document.querySelectorAll('#feed input')[1].value = '0'")
+            page.fill(VALUES, "5")
+            page.press("enter")
+            page.says("said", "54 NotLater")
+            self.assertEqual(page.run("return document.querySelector(arguments[0]).value", VALUES), "5")
+
+    def test_feed_to(self):
+        """An input is advanced by several epochs in one step."""
+        with Served(opening_of("not-stepped", 2), ["--processors", "2"]) as live, Page(live) as page:
+            page.run(CHOOSE, 1, "advance to epoch")
+            page.run("document.querySelectorAll('#feed input')[1].value = '7'")
+            page.click(page.find(FEED))
+            page.says("effect", "goes from epoch 0 to 7")
+
+
+@needs_browser
+class Discarding(unittest.TestCase):
+    def test_warned_and_brought_back(self):
+        """A step in the past is asked about first; what it discards comes back by a button."""
+        with stuck() as live, Page(live) as page:
+            page.press("left", "left", "left")
+            page.at(8, "the past")
+            page.press("n")
+            page.wait(lambda: page.run(WARNS), "the warning")
+            page.says("warns", "discards the 3 later steps")
+            page.click(page.find("#leave"))
+            self.assertEqual(page.run("return document.body.dataset.kept"), "11")
+            page.click(page.find(FEED))
+            page.wait(lambda: page.run(WARNS), "the warning")
+            page.click(page.find("#go-on"))
+            page.at(9, "the feed")
+            page.says("said", "3 kept steps discarded, which can be brought back")
+            page.click(page.find("#bring-back"))
+            page.says("cursor", "position 8 of 11")
+
+    def test_run_that_discards(self):
+        """A run in pieces says at its end how many steps it discarded at its begin."""
+        with stuck() as live, Page(live) as page:
+            page.press("left", "left")
+            page.at(9, "the past")
+            page.click(page.find("#run"))
+            page.wait(lambda: page.run(WARNS), "the warning")
+            page.click(page.find("#go-on"))
+            page.says(
+                "said", "nothing is enabled; the cursor is at 11 of 11 kept steps; 2 kept steps discarded"
+            )
+
+
+@needs_browser
+class Tabs(unittest.TestCase):
+    def test_two_tabs(self):
+        """What one tab does the other shows, and both can be closed."""
+        with stuck() as live, Page(live) as page:
+            first = page.tabs()[0]
+            page.new_tab()
+            page.open(live.address)
+            page.at(11, "the second tab")
+            page.press("left")
+            page.at(10, "its step")
+            page.go_to_tab(first)
+            page.at(10, "the first tab")
+            page.open("about:blank")
+
+    def test_told_while_busy(self):
+        """What another tab does while this one waits for an answer is shown after it."""
+        with stuck() as live, Page(live) as page:
+            page.run("inTurn(() => new Promise((done) => { setTimeout(done, 2000); }))")
+            live.command({"do": "back"})
+            page.at(10, "the other tab's step")
+
+    def test_last_tab_closed(self):
+        """The session stays when its last tab is closed, and the terminal says where it is."""
+        with stuck() as live, Page(live) as page:
+            page.press("left")
+            page.at(10, "a step back")
+            page.open("about:blank")
+            said = live.process.stdout.readline()
+            self.assertIn(f"the session stays until Ctrl-C, at {live.address}", said)
+            page.open(live.address)
+            page.at(10, "the same session")
+
+    def test_through_a_tunnel(self):
+        """The page by another port, as of 'ssh -L', and by an address without its last slash."""
+        with stuck() as live, Tunnel(live.address) as tunnel, Page(live) as page:
+            page.open(tunnel.address.rstrip("/"))
+            page.at(11, "the page")
+            page.click_text("#candidates button", "runs the notification of total")
+            page.says("why", "the token of processor 1")
+            page.press("left")
+            page.at(10, "a step back")
+            self.assertTrue(page.run("return by('gone').hidden"))
+
+    def test_server_gone(self):
+        """That the server is gone is said at once."""
+        with stuck() as live, Page(live) as page:
+            live.process.send_signal(signal.SIGKILL)
+            begun = time.monotonic()
+            page.says("gone", "the server is gone")
+            self.assertLess(time.monotonic() - begun, 3)
+            self.assertFalse(page.run("return document.getElementById('gone').hidden"))
+
+
+@needs_browser
+class Going(unittest.TestCase):
+    """To a position, and through long runs."""
+
+    def test_go_to(self):
+        with stuck() as live, Page(live) as page:
+            page.fill("#position", "4")
+            page.press("enter")
+            page.at(4, "position 4")
+            page.fill("#position", "12")
+            page.press("enter")
+            page.says("said", "12 is not between 0 and 11")
+            page.press_in("#slider", "right", "right")
+            page.at(6, "the slider")
+            page.press("end")
+            page.at(11, "its end")
+
+    def test_long_run(self):
+        """A run of many steps shows how far it is, and is cancelled."""
+        graph, lines = chain(30, 500, 64)
+        with Served([json.dumps(it) for it in (graph, *lines)], ["--processors", "2"]) as live:
+            with Page(live) as page:
+                page.run(WATCH)
+                page.wait(lambda: page.run("return waiting === 0"), "the first picture")
+                page.fill("#limit", "900000")
+                # (pressed by the page itself, since the browser's driver waits for quick answers)
+                page.run("by('run').click()")
+                page.wait(lambda: page.run("return !by('busy').hidden"), "the busy sign")
+                page.run("by('cancel').click()")
+                page.says("said", "cancelled: ran")
+                page.wait(lambda: page.run("return by('busy').hidden"), "no busy sign")
+                at = int(page.run(POSITION))
+                self.assertTrue(500 < at < 900500, at)
+                seen = [it for it in page.run("return window.seen") if it.endswith("of 900000 steps")]
+                self.assertTrue(seen)
+
+    def test_cancel_of_what_waits(self):
+        """A cancel is of all that waits behind a question, too."""
+        with stuck() as live, Page(live) as page:
+            page.wait(lambda: page.run("return waiting === 0"), "the first picture")
+            page.run(SLOW_QUESTION)
+            page.wait(lambda: page.run("return !by('busy').hidden"), "the busy sign")
+            page.click(page.find("#cancel"))
+            page.wait(lambda: page.run("return waiting === 0"), "the end of what waits")
+            self.assertEqual((page.run(POSITION), live.asked("picture", {})["picture"]["at"]), ("11", 11))
+
+    def test_run_in_pieces(self):
+        """A run in pieces ends as one: idle, with all steps counted, or at a breakpoint."""
+        graph, lines = chain(3, 10, 20)
+        when = {"count": {"at": "e2", "time": [8], "at_least": 1}}
+        given = [graph, *lines, {"do": "break", "when": when}]
+        with Served([json.dumps(it) for it in given], ["--processors", "2"]) as live, Page(live) as page:
+            page.click(page.find("#run"))
+            page.says("said", "then stopped: breakpoint 0 holds")
+            page.click_text("#breaks button", "remove")
+            page.wait(lambda: "breakpoint" not in page.run(TEXT, "breaks"), "no breakpoint")
+            page.click(page.find("#run"))
+            page.says("said", "then stopped: nothing is enabled")
+            kept = int(page.run("return document.body.dataset.kept"))
+            once = runs.run_script(
+                "\n".join(map(json.dumps, [graph, *lines, {"do": "run", "limit": 100000}])).encode(),
+                ["--processors", "2"],
+            )
+            self.assertEqual(kept, once.entries[-1].reply["kept"])
+
+
+@needs_browser
+class Asking(unittest.TestCase):
+    def test_earliest_time(self):
+        """A click on a location asks about the earliest time that can still arrive there."""
+        opening = [*opening_of("stuck-program", 2), json.dumps(feed([], vertex="words"))]
+        with Served([*opening, '{"do":"run","limit":9}']) as live, Page(live) as page:
+            page.click(page.find(".graph .vertex[data-place='2']"))
+            page.says("why", "processor 0 does not know that out (1) is finished")
+            page.says("why", "can still arrive at out, as far as processor 0 knows: (1) and later")
+
+    def test_condition_without_point(self):
+        """A condition of no point is asked about, and no breakpoint is set."""
+        with stuck() as live, Page(live) as page:
+            page.click_text("#when button", "break when it holds")
+            page.says("said", "which point?")
+            self.assertNotIn("breakpoint", page.run(TEXT, "breaks"))
+            page.click(page.find("#points td button"))
+            page.says("why", "finished")
+            page.click_text("#when button", "break when it holds")
+            page.says("breaks", "breakpoint 0")
+
+    def test_wrong_time(self):
+        with stuck() as live, Page(live) as page:
+            page.click(page.find(".graph .vertex"))
+            page.says("why", "finished")
+            page.fill("#why-form input", "0,0")
+            page.press("enter")
+            page.says("why", "(0,0) is no time of words")
+            page.fill("#why-form input", "x")
+            page.press("enter")
+            page.says("said", '"x" is no whole number')
+
+
+@needs_browser
+class Reading(unittest.TestCase):
+    """What a screen reader reads, and what keys do."""
+
+    def test_names(self):
+        with stuck() as live, Page(live) as page:
+            self.assertEqual(page.run(UNNAMED), [])
+            name = page.run(NAME, ".graph .vertex")
+            self.assertEqual(name, "words, vertex, input: 2 tokens at 2 times")
+            self.assertEqual(page.run(NAME, "#feed select"), "the input")
+            self.assertEqual(page.run(NAME, VALUES), "values")
+            self.assertIn("processor 0 views", page.run(NAME, "#points td button"))
+            roles = page.run("return ['said', 'why', 'cursor'].map((it) => by(it).getAttribute('role'))")
+            self.assertEqual(set(roles), {"status"})
+
+    def test_space_and_enter(self):
+        for key in ("space", "enter"):
+            with self.subTest(key), stuck() as live, Page(live) as page:
+                page.press_in(".graph .vertex[data-place='1']", key)
+                page.says("why", "processor 0 does not know that total")
+                focused = page.run("return document.activeElement.dataset.place")
+                self.assertEqual(focused, "1")
+
+    def test_focus_stays(self):
+        """The focus stays in a list that is drawn again."""
+        with stuck() as live, Page(live) as page:
+            page.press_in("#candidates button", "enter")
+            page.says("why", "finished")
+            self.assertEqual(page.run("return document.activeElement.closest('ul').id"), "candidates")

@@ -1,0 +1,422 @@
+"""A graph without JSON: a short text of paths, one path per line.
+
+    # each word is sent to the worker that counts it
+    words(input) --exchange--> total(sum) --> out(sink)
+
+    read(lines)              the graph of a text's lines, as the value of the graph's line
+    text_of(graph)           the text of such a value; Wrong, if no text has it
+    json_of_graph(graph)     the graph's line
+    with_json(script)        a script's bytes with the graph's line in place of the text, if it has one
+
+A vertex is NAME(OP) where it is first mentioned, and NAME after that. After OP come k=NUMBER, which add,
+mul, below and split must have, and depth=NUMBER. An arrow is --> for the route local and --exchange--> for
+exchange. Between -- and --> may also stand [NAME], the name of the edge, and port=NUMBER. Without them an
+edge from a to b has the name a-b and leaves on port 0.
+
+A depth that is not given follows along the edges from the inputs, which are at depth 0, and from the depths
+that are given. Where there is neither, the first vertex is at depth 0. # begins a comment. A name with other
+characters than letters, digits, _ . / : + * and single hyphens is written as a JSON text, as "a#1". In a
+script an empty line ends the text.
+
+A text that is read has the form of a graph, each name once, and a vertex at each end of an edge. All else,
+such as ports and depths that do not fit, is left to the program. Wrong says the line, the column and the
+reason."""
+import collections
+import json
+import re
+from typing import NamedTuple
+
+from rewind_tools.runs import json_of
+from rewind_tools.script import LAST, NUMBERED_OPS, PLAIN_OPS
+from rewind_tools.telling import values
+from rewind_tools.telling.forms import listed, nearest
+from rewind_tools.telling.graph_faults import BEYOND, double_names, name_fault, shape_faults, unknown_names
+
+# A line that is printed is longer only for a single edge.
+WIDTH = 100
+PLAIN = re.compile(r"[\w./:+*]+(?:-[\w./:+*]+)*", re.ASCII)
+WORD, KEY, NUMBER = re.compile(r"[A-Za-z]+"), re.compile(r"([A-Za-z]+)[ \t]*="), re.compile(r"-?[0-9]+")
+BLANKS = re.compile(r"[ \t]*")
+# How a text of paths begins in a script.
+BEGINS = re.compile(r'\s*(?:"(?:\\.|[^"\\])*"|[^\s"{}()\[\]]+)\s*(?:\(|--)|[^{]*-->')
+ARROWS = "an arrow is -->, --exchange-->, --[NAME]--> or --port=1-->"
+LIMITS = {"k": values.SIGNED, "depth": values.SMALL, "port": values.SMALL}
+# How many faults of a value are said.
+MOST_FAULTS = 3
+NO_VERTICES = "# no vertices\n"
+
+
+class Wrong(Exception):
+    """A text or a value that is no graph: its words have the place and the reason."""
+
+
+def at_place(number, column, why):
+    return Wrong(f"line {number}, column {column}: {why}")
+
+
+class Scanner:
+    """One line of the text, and the position up to which the line is read."""
+
+    def __init__(self, text, number):
+        self.text, self.number, self.at = text.rstrip(" \t\r\n"), number, 0
+
+    def wrong(self, why, at=None):
+        return at_place(self.number, (self.at if at is None else at) + 1, why)
+
+    def take(self, form):
+        """Takes what matches a form after blanks, or a text: None if nothing does."""
+        self.at = BLANKS.match(self.text, self.at).end()
+        if isinstance(form, str):
+            found = form if self.text.startswith(form, self.at) else None
+            self.at += len(found or "")
+            return found
+        found = form.match(self.text, self.at)
+        self.at = found.end() if found else self.at
+        return found and found[found.lastindex or 0]
+
+    def is_at_end(self):
+        self.take("")
+        return self.at == len(self.text) or self.text[self.at] == "#"
+
+    def here(self):
+        """What stands here, in words."""
+        if self.is_at_end():
+            return "the line ends here"
+        return f"{values.shown(re.match(r'[^ ]+', self.text[self.at :])[0], 24)} stands here"
+
+
+class Vertex(NamedTuple):
+    """A vertex as it is declared: what is given in its brackets, and where it stands."""
+
+    op: str
+    given: dict
+    number: int
+    column: int
+
+
+class Parts:
+    """What has been read of a graph: its vertices by their names, its edges, and the line of each name."""
+
+    def __init__(self):
+        self.vertices, self.edges, self.named = {}, [], {}
+
+    def name(self, name, line, at, advice=""):
+        """Notes that a vertex or an edge has a name, which no other may have."""
+        if name in self.named:
+            before = f"a vertex or an edge in line {self.named[name]} has the name {name} already"
+            raise line.wrong(before + advice, at)
+        self.named[name] = line.number
+
+
+def read_name(line, of):
+    """A name, in quotation marks or without."""
+    line.take("")
+    begin = line.at
+    if line.text.startswith('"', begin):
+        try:
+            name, line.at = json.JSONDecoder().raw_decode(line.text, begin)
+        except ValueError:
+            raise line.wrong("a name in quotation marks is a JSON text, which this is not") from None
+    else:
+        name = line.take(PLAIN)
+        if name is None:
+            raise line.wrong(f"the name of {of} is missing: {line.here()}")
+        odd = line.text[line.at : line.at + 1]
+        if odd and odd not in ' \t(-]#"':
+            raise line.wrong(f"a name with {values.shown(odd)} in it is written in quotation marks")
+    fault = "is no name" if re.search(r"[\ud800-\udfff]", name) else name_fault(name)
+    if fault:
+        wrong = f"the name {values.shown(name)} {fault}; a name has 1 to 32 bytes, each from ! to ~"
+        raise line.wrong(wrong, begin)
+    return name
+
+
+def read_number(line, key):
+    """The number after a key, within the key's limits."""
+    begin = line.at
+    word = line.take(NUMBER)
+    if word is None:
+        raise line.wrong(f"{key}= needs a number: {line.here()}")
+    low, high = LIMITS[key]
+    if len(word) > 20 or not low <= int(word) <= high:
+        raise line.wrong(f"{key} is a number from {low} to {high}", begin)
+    return int(word)
+
+
+def read_op(line, name):
+    """What stands in the brackets of a vertex: its operator, and the numbers that are given."""
+    line.take("")
+    begin = line.at
+    op = line.take(WORD)
+    ops = PLAIN_OPS + NUMBERED_OPS
+    if op not in ops:
+        near = nearest(op, ops) if op else None
+        hint = f"the nearest is {near}" if near else f"the operators are {listed(ops)}"
+        is_none = f"{op} is no operator" if op else f"the operator of {name} is missing: {line.here()}"
+        raise line.wrong(f"{is_none}; {hint}", begin)
+    given = {}
+    while not line.take(")"):
+        at = line.at
+        key = line.take(KEY)
+        if key is None and line.take(NUMBER):
+            raise line.wrong("a number has its key before it, as k=1 or depth=1", at)
+        if key is None:
+            raise line.wrong(f"the ')' of {name} is missing: {line.here()}")
+        if key not in ("k", "depth"):
+            raise line.wrong(f"{key} is no key of a vertex; the keys are k and depth", at)
+        if key == "k" and op not in NUMBERED_OPS:
+            raise line.wrong(f"{op} has no k; {listed(NUMBERED_OPS)} have one", at)
+        if key in given:
+            raise line.wrong(f"{key} is given twice", at)
+        given[key] = read_number(line, key)
+    if op in NUMBERED_OPS and "k" not in given:
+        raise line.wrong(f"{op} needs a number k, as {written(name)}({op} k=1)", begin)
+    return op, given
+
+
+def read_vertex(line, parts):
+    """The name of a vertex, which is declared where it is first mentioned."""
+    line.take("")
+    begin = line.at
+    name = read_name(line, "a vertex")
+    if line.take("("):
+        if name in parts.vertices:
+            before = f"{name} has its operator in line {parts.vertices[name].number} already"
+            raise line.wrong(f"{before}; after that it is {written(name)} alone", begin)
+        parts.name(name, line, begin)
+        op, given = read_op(line, name)
+        parts.vertices[name] = Vertex(op, given, line.number, begin + 1)
+    elif name not in parts.vertices:
+        near = nearest(name, parts.vertices)
+        hint = f"; the nearest vertex is {near}" if near else ""
+        why = f"{name} needs an operator at its first mention, as {written(name)}(sum)"
+        raise line.wrong(why + hint, begin)
+    return name
+
+
+def read_arrow(line):
+    """What an arrow gives: its route, its name and its port, as far as they are there."""
+    if not line.take("--"):
+        raise line.wrong(f"an arrow or the end of the line is expected: {line.here()}; {ARROWS}")
+    given = {}
+    if line.text.startswith(">", line.at):
+        line.at += 1
+        return given
+    while not line.take("-->"):
+        at = line.at
+        if line.take("["):
+            key, value = "name", read_name(line, "an edge")
+            if not line.take("]"):
+                raise line.wrong(f"the ']' after the name of an edge is missing: {line.here()}")
+        elif key := line.take(KEY):
+            if key != "port":
+                raise line.wrong(f"{key} is no key of an edge, which has port alone; {ARROWS}", at)
+            value = read_number(line, key)
+        else:
+            key, value = "route", line.take(WORD)
+            if value is None:
+                raise line.wrong(f"the --> of an arrow is missing: {line.here()}; {ARROWS}")
+            if value not in ("local", "exchange"):
+                raise line.wrong(f"{value} is no route: a route is local or exchange; {ARROWS}", at)
+        if key in given:
+            raise line.wrong(f"the {key} of an edge is given twice", at)
+        given[key] = value
+    return given
+
+
+def read_path(line, parts):
+    """A path: vertices with an arrow between each two."""
+    start = read_vertex(line, parts)
+    while not line.is_at_end():
+        begin = line.at
+        given = read_arrow(line)
+        end = read_vertex(line, parts)
+        name = given.get("name", f"{start}-{end}")
+        if "name" not in given and name_fault(name):
+            why = f"the name {name} of the edge {name_fault(name)}; give another, as --[NAME]-->"
+            raise line.wrong(why, begin)
+        parts.name(name, line, begin, "; give another, as --[NAME]-->")
+        edge = {"name": name, "from": start, "port": given.get("port", 0), "to": end}
+        parts.edges.append({**edge, "route": given.get("route", "local")})
+        start = end
+
+
+def spread(known, around, names):
+    """Adds to the known depths those that follow from the depths of some vertices along the edges."""
+    left = collections.deque(names)
+    while left:
+        name = left.popleft()
+        for other, deeper in around[name]:
+            if other not in known:
+                known[other] = known[name] + deeper
+                left.append(other)
+
+
+def depths(ops, edges, given):
+    """The depth of each vertex: the given one, 0 of an input, or what follows from these along the edges."""
+    around = {name: [] for name in ops}
+    for it in edges:
+        deeper = BEYOND.get(ops[it["from"]], 0)
+        around[it["from"]].append((it["to"], deeper))
+        around[it["to"]].append((it["from"], -deeper))
+    known = {name: given.get(name, 0) for name, op in ops.items() if name in given or op == "input"}
+    spread(known, around, list(known))
+    for name in ops:
+        if name not in known:
+            known[name] = 0
+            spread(known, around, [name])
+    return known
+
+
+def read(lines, first=1):
+    """The graph of a text's lines, of which the first has this number."""
+    parts = Parts()
+    for number, text in enumerate(lines, first):
+        line = Scanner(text, number)
+        if line.text.startswith("{"):
+            raise line.wrong("an empty line ends the graph, and comes before the lines of the script")
+        if not line.is_at_end():
+            read_path(line, parts)
+    given = {name: it.given["depth"] for name, it in parts.vertices.items() if "depth" in it.given}
+    known = depths({name: it.op for name, it in parts.vertices.items()}, parts.edges, given)
+    vertices = []
+    for name, it in parts.vertices.items():
+        if known[name] < 0:
+            why = f"{name} would be at depth {known[name]}, since an egress is outside of all loops"
+            advice = "an ingress enters a loop, and depth=1 after an operator gives a depth"
+            raise at_place(it.number, it.column, f"{why}; {advice}")
+        number = {"k": it.given["k"]} if "k" in it.given else {}
+        vertices.append({"name": name, "op": it.op, "depth": known[name], **number})
+    return {"vertices": vertices, "edges": parts.edges}
+
+
+def written(name):
+    """A name as the text has it."""
+    return name if PLAIN.fullmatch(name) else json.dumps(name)
+
+
+def given_depths(graph):
+    """The depths that the text has to give, since others would follow without them."""
+    ops = {it["name"]: it["op"] for it in graph["vertices"]}
+    given, is_done = {}, False
+    while not is_done:
+        known = depths(ops, graph["edges"], given)
+        wrong = [it for it in graph["vertices"] if known[it["name"]] != it["depth"]]
+        given.update({it["name"]: it["depth"] for it in wrong[:1]})
+        is_done = not wrong
+    return given
+
+
+def arrow_of(edge):
+    """An edge as the text has it."""
+    name = [] if edge["name"] == f"{edge['from']}-{edge['to']}" else [f"[{written(edge['name'])}]"]
+    port = [f"port={edge['port']}"] if edge["port"] else []
+    route = ["exchange"] if edge["route"] == "exchange" else []
+    given = " ".join(name + port + route)
+    return f"--{given}-->" if given else "-->"
+
+
+class Printing:
+    """The lines of a graph's text: its edges in their order, and each vertex declared in its order."""
+
+    def __init__(self, graph):
+        self.vertices, self.given = graph["vertices"], given_depths(graph)
+        self.order = {it["name"]: at for at, it in enumerate(self.vertices)}
+        self.declared, self.lines, self.end = 0, [], None
+
+    def are_next(self, names):
+        """Whether vertices that are mentioned in this order are declared, or the next to be."""
+        reached = self.declared
+        for it in names:
+            if self.order[it] > reached:
+                return False
+            reached += self.order[it] == reached
+        return True
+
+    def mention(self, name):
+        if self.order[name] < self.declared:
+            return written(name)
+        it = self.vertices[self.declared]
+        self.declared += 1
+        number = f" k={it['k']}" if "k" in it else ""
+        depth = f" depth={it['depth']}" if name in self.given else ""
+        return f"{written(name)}({it['op']}{number}{depth})"
+
+    def declare(self):
+        """Adds the next vertex in a line of its own."""
+        self.lines.append(self.mention(self.vertices[self.declared]["name"]))
+        self.end = None
+
+    def add(self, edge):
+        """Adds an edge, to the last path if the edge continues that."""
+        if edge["from"] == self.end and self.are_next([edge["to"]]):
+            declared = self.declared
+            longer = f"{self.lines[-1]} {arrow_of(edge)} {self.mention(edge['to'])}"
+            if len(longer) <= WIDTH:
+                self.lines[-1], self.end = longer, edge["to"]
+                return
+            self.declared = declared
+        while not self.are_next([edge["from"], edge["to"]]):
+            self.declare()
+        start = self.mention(edge["from"])
+        self.lines.append(f"{start} {arrow_of(edge)} {self.mention(edge['to'])}")
+        self.end = edge["to"]
+
+
+def text_of(graph):
+    """The text of a graph's value."""
+    faults = shape_faults(graph, LAST) or double_names(graph) or unknown_names(graph)
+    if faults:
+        raise Wrong("; ".join(faults[:MOST_FAULTS]))
+    printing = Printing(graph)
+    for edge in graph["edges"]:
+        printing.add(edge)
+    while printing.declared < len(printing.vertices):
+        printing.declare()
+    return "".join(it + "\n" for it in printing.lines) or NO_VERTICES
+
+
+def json_of_graph(graph):
+    """The graph's line, without its newline."""
+    return json.dumps(graph, separators=(",", ":"))
+
+
+def is_text(line):
+    """Whether a text of paths begins with a line's bytes."""
+    return json_of(line) is None and bool(BEGINS.match(line.decode(errors="replace")))
+
+
+def is_left_out(line):
+    return not line.strip() or line.lstrip().startswith(b"#")
+
+
+def graph_at(lines):
+    """The position of a script's graph among its lines, after a version line; None if there is none."""
+    found = (at for at, it in enumerate(lines) if not is_left_out(it))
+    first = next(found, None)
+    value = None if first is None else json_of(lines[first])
+    return next(found, None) if isinstance(value, dict) and value.keys() == {"version"} else first
+
+
+def graph_and_end(lines, begin):
+    """The graph of a text that begins at a position of a script's lines, and where the text ends."""
+    end = next((at for at in range(begin, len(lines)) if not lines[at].strip()), len(lines))
+    graph = read([it.decode(errors="replace") for it in lines[begin:end]], begin + 1)
+    after = next((at for at in range(end, len(lines)) if not is_left_out(lines[at])), None)
+    if after is not None and is_text(lines[after]):
+        why = f"the graph ends at the empty line {end + 1}, and no path comes after that"
+        raise at_place(after + 1, 1, why)
+    return graph, end
+
+
+def with_json(script):
+    """A script's bytes with the graph's line in place of a text of paths, and blank lines, so that all other
+    lines have their numbers; the same bytes, if the graph is no text."""
+    lines = script.split(b"\n")
+    begin = graph_at(lines)
+    if begin is None or not is_text(lines[begin]):
+        return script
+    graph, end = graph_and_end(lines, begin)
+    head = [b"" if is_left_out(it) else it for it in lines[:begin]]
+    text = [json_of_graph(graph).encode(), *[b""] * (end - begin - 1)]
+    return b"\n".join(head + text + lines[end:])

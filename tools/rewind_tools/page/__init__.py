@@ -1,0 +1,75 @@
+"""The page of a session that is live, or of a run that is recorded: one page with two sources of answers.
+
+A live page loads its style and its scripts from the server; a recorded one has them, and the answers, in
+itself."""
+import json
+import os
+from html import escape
+
+from rewind_tools.showing.graphs import graph_svg, laid_out
+
+FOLDER = os.path.dirname(os.path.abspath(__file__))
+SHARED = ("base.js", "steps.js", "drawing.js", "panels.js")
+SCRIPTS = {"live": (*SHARED, "live.js", "keys.js"), "recorded": (*SHARED, "recorded.js", "keys.js")}
+FILES = {
+    "page.css": "text/css; charset=utf-8",
+    **{it: "text/javascript; charset=utf-8" for it in SCRIPTS["live"]},
+}
+# How wide a graph may be to stand beside the other panels.
+WIDEST_BESIDE = 600
+# From how many processors on the table of their views has all of the width.
+MANY = 5
+KEYS = {
+    "live": "Keys: left and right undo and redo, Home and End go to the ends, n executes the next step, r"
+    " runs, s saves, Tab and Enter reach every button.",
+    "recorded": "Keys: left and right go one position back or forward, page up and page down one line, Home"
+    " and End to the ends.",
+}
+WORDS = {
+    "live": {
+        "back": "undo the last step", "redo": "execute the next kept step again", "on": "redo",
+        "conditions": "Conditions", "changed": "changed by the last step",
+    },
+    "recorded": {
+        "back": "one position back", "redo": "one position forward", "on": "forward",
+        "conditions": "Breakpoints", "changed": "changed since the position before",
+    },
+}  # fmt: skip
+
+
+def part(name):
+    with open(os.path.join(FOLDER, name), encoding="utf-8") as it:
+        return it.read()
+
+
+def places_of(graph):
+    """The vertices and edges by name, each with what it is."""
+    return [{"name": it["name"], "op": it.get("op", "edge")} for it in graph["vertices"] + graph["edges"]]
+
+
+def filled(kind, values):
+    """The page with its values."""
+    pieces = part("page.html").split("@")
+    values = {**WORDS[kind], "kind": kind, "keys": KEYS[kind], **values}
+    return "".join(values[it] if at % 2 else it for at, it in enumerate(pieces))
+
+
+def graph_of(graph, processors, uses_dot=True):
+    """The values of a page that are about its graph."""
+    svg, width = graph_svg(graph, laid_out(graph, uses_dot))
+    has_loops = any(it["depth"] for it in graph["vertices"])
+    loops = '<span class="key"><i class="loop"></i>a loop</span>' if has_loops else ""
+    size = ["large"] * (width > WIDEST_BESIDE) + ["many"] * (processors >= MANY)
+    return {"graph": svg, "size": " ".join(size), "loops": loops}
+
+
+def live_page(graph, name, processors):
+    """The page of a live session."""
+    about = {"processors": processors, "places": places_of(graph), "name": name}
+    values = {
+        "title": escape(name), "about": escape(json.dumps(about)), "command": "", "last": "0",
+        **graph_of(graph, processors),
+        "style": '<link rel="stylesheet" href="page.css">',
+        "scripts": "\n".join(f'<script src="{it}"></script>' for it in SCRIPTS["live"]),
+    }  # fmt: skip
+    return filled("live", values)

@@ -1,0 +1,426 @@
+"use strict";
+// The page of a live session: it asks the server, one question after the other.
+const FIRST_PIECE = 200, SMALLEST_PIECE = 20, LARGEST_PIECE = 20000, PIECE_TAKES = 250, BUSY_AFTER = 500, SLOW = 800;
+// What is in sight beside the cursor: the first point of the table and the first candidate by their numbers, and a condition.
+const sight = { points: 0, candidates: 0, when: null };
+const onlyChosen = new Set();
+// Whether the last command was refused, or not even answered.
+let isRefused = false;
+// Whether the picture is not that of the newest state that is known, and whether the last one took long.
+let isStale = false, isSlow = false;
+// The number of the session's newest state, as the server told it beside its answers.
+let newest = 0;
+let revision = 0, busy = Promise.resolve(), waiting = 0, busyTimer = null, isCancelled = false;
+
+async function asked(path, value) {
+  const begun = performance.now();
+  let answer;
+  try {
+    answer = await fetch(path, { method: "POST", headers: { "Content-Type": "application/json" }, body: JSON.stringify(value) });
+  } catch {
+    throw new Error(GONE);
+  }
+  const told = await answer.json();
+  if (told.picture) isSlow = performance.now() - begun > SLOW;
+  if (!answer.ok) throw Object.assign(new Error(told.error), { status: answer.status });
+  return told;
+}
+
+// ---- one question after the other, so that answers come in the order of clicks. A cancel is of all that wait.
+
+function inTurn(action) {
+  let hasFailed = false;
+  const fail = (fault) => { hasFailed = true; say(fault.message, true); };
+  waiting += 1;
+  if (waiting === 1) {
+    isCancelled = false;
+    busyTimer = setTimeout(() => { by("busy").hidden = false; }, BUSY_AFTER);
+  }
+  busy = busy.then(() => (isCancelled ? undefined : action())).catch((fault) => {
+    if (fault.status !== 409) return fail(fault);
+    say(fault.message, true);
+    return refresh();
+  }).catch(fail).finally(() => {
+    waiting -= 1;
+    if (waiting) return;
+    clearTimeout(busyTimer);
+    by("busy").hidden = true;
+    progress("");
+    if (!hasFailed && (isStale || newest > revision)) inTurn(refresh);
+  });
+  return busy;
+}
+
+function progress(text) {
+  by("progress").textContent = text || "working";
+}
+
+// The candidates are asked for after the picture, since the program tries each.
+function inSight() {
+  return { ...sight, candidates: null, why: chosen.time || chosen.place === null ? question() : null };
+}
+
+async function refresh() {
+  take(await asked("picture", { sight: inSight() }));
+  return follow();
+}
+
+// What follows a picture: the candidates, unless another question waits, and the rest of the turns.
+async function follow() {
+  if (waiting > 1) isStale = true;
+  else {
+    const told = await asked("candidates", { first: sight.candidates });
+    if (told.revision === revision) picture.candidates = told.candidates;
+    else isStale = true;
+    showCandidates();
+  }
+  return followTurns();
+}
+
+function take(told) {
+  before = picture && told.picture.at === picture.at + 1 ? picture : null;
+  revision = told.revision;
+  picture = told.picture;
+  isStale = false;
+  show();
+}
+
+// The turns of a condition come in pieces, since the program walks over all kept steps.
+async function followTurns() {
+  while (!isCancelled && picture.turns && picture.turns.to < picture.kept && !picture.turns.more && !picture.turns.error) {
+    progress(`looked at ${picture.turns.to} of ${picture.kept} positions`);
+    const { candidates } = picture, known = revision;
+    take(await asked("picture", { sight: inSight() }));
+    isStale = isStale || revision !== known;
+    picture.candidates = candidates;
+    showCandidates();
+  }
+}
+
+// ---- commands. A line is an object, or the text of one, whose numbers a browser would round.
+
+function textOf(line) {
+  return typeof line === "string" ? line : JSON.stringify(line);
+}
+
+function isStep(text) {
+  return ["feed", "take", "notice", "release", "broadcast", "receive", "run"].includes(JSON.parse(text).do);
+}
+
+// Executes a command. One that discards kept steps is asked about first. Returns whether it was executed.
+function execute(line, carry = command) {
+  const text = textOf(line), act = () => inTurn(() => carry(text));
+  isRefused = true;
+  if (isStep(text) && picture.at < picture.kept) return new Promise((done) => { warn(act, done); });
+  return act();
+}
+
+// Executes a command. If others wait behind it, as when a key is held down, the picture is asked for after the last;
+// and if pictures take long, where the command led is shown before the picture.
+async function command(text) {
+  const hasPicture = waiting === 1 && !isSlow;
+  const told = await asked("command", { line: text, revision, sight: hasPicture ? inSight() : null });
+  say([...told.words, told.discarded].filter(Boolean).join("; "), told.refused);
+  isRefused = told.refused;
+  if (hasPicture) {
+    take(told);
+    return follow();
+  }
+  revision = told.revision;
+  isStale = true;
+  if (told.reply.at !== undefined) by("cursor").textContent = `position ${told.reply.at} of ${told.reply.kept}`;
+  return undefined;
+}
+
+function warn(act, done) {
+  const count = picture.kept - picture.at;
+  by("warns").textContent = `Executing another step here discards the ${count} later ${count === 1 ? "step" : "steps"}. They can be brought back.`;
+  const close = () => by("warning").close();
+  by("go-on").onclick = () => { close(); act().then(done); };
+  by("save-first").onclick = () => save().then(() => { close(); return act(); }).then(done);
+  by("leave").onclick = close;
+  by("warning").showModal();
+}
+
+// The number of steps of the next piece, which is to take a quarter of a second.
+function nextPiece(piece, taken) {
+  return Math.round(Math.max(SMALLEST_PIECE, Math.min(LARGEST_PIECE, piece * Math.min(8, PIECE_TAKES / Math.max(1, taken)))));
+}
+
+// A run in pieces, so that it shows how far it is and can be cancelled. A short run is one question.
+async function runInPieces(text) {
+  const line = JSON.parse(text), limit = line.limit;
+  if (limit <= FIRST_PIECE) return command(text);
+  let ran = 0, piece = FIRST_PIECE, told = null, discarded = null;
+  do {
+    const begun = performance.now(), count = Math.min(piece, limit - ran);
+    told = await asked("command", { line: textOf({ ...line, limit: count }), revision, sight: null, ran });
+    revision = told.revision;
+    discarded = discarded || told.discarded;
+    if (told.refused) break;
+    ran = told.reply.ran;
+    piece = nextPiece(piece, performance.now() - begun);
+    progress(`ran ${ran} of ${limit} steps`);
+    by("cursor").textContent = `position ${told.reply.at} of ${told.reply.kept}`;
+  } while (!isCancelled && ran < limit && told.reply.stop === "limit");
+  const isCut = isCancelled && told.reply.stop === "limit" && ran < limit;
+  await refresh();
+  const words = isCut ? [`cancelled: ran ${ran} steps`] : told.words;
+  say([...words, discarded].filter(Boolean).join("; "), told.refused);
+}
+
+// A jump, in pieces if the program would walk long. It begins at the start, if that is nearer than the cursor.
+async function jumpInPieces(to) {
+  let { reach } = picture, at = to < Math.abs(to - picture.at) ? 0 : picture.at;
+  while (!isCancelled && Math.abs(to - at) > reach) {
+    const begun = performance.now();
+    at += Math.sign(to - at) * reach;
+    const told = await asked("command", { line: textOf({ do: "jump", to: at }), revision, sight: null });
+    revision = told.revision;
+    progress(`at position ${at}, on the way to ${to}`);
+    reach = nextPiece(reach, performance.now() - begun);
+  }
+  return isCancelled ? refresh() : command(textOf({ do: "jump", to }));
+}
+
+function jump(to) {
+  if (to !== picture.at && to >= 0 && to <= picture.kept) return inTurn(() => jumpInPieces(to));
+  return busy;
+}
+
+function bringBack() {
+  return inTurn(async () => {
+    const told = await asked("bring-back", { revision, sight: inSight() });
+    say(told.words.join("; "));
+    take(told);
+    return follow();
+  });
+}
+
+function save() {
+  return inTurn(async () => {
+    const told = await asked("save", {});
+    const link = made("a");
+    link.href = URL.createObjectURL(new Blob([told.script], { type: "text/plain" }));
+    link.download = about.name.replace(/(\.jsonl)?$/, "-kept.jsonl");
+    link.click();
+    URL.revokeObjectURL(link.href);
+    document.body.dataset.saved = told.script;
+    say(`saved as ${link.download}; ./rewind ${told.words.join(" ")} < ${link.download} executes it again`);
+  });
+}
+
+// Releases a held capability, or moves it to a later time, which is the next epoch unless another is typed.
+function releaseForm(line) {
+  const form = made("form", undefined, "form"), to = made("input");
+  to.value = [line.time[0] + 1, ...line.time.slice(1)].join(",");
+  to.size = 6;
+  const there = `${line.vertex} ${timeText(line.time)} of processor ${line.p}`;
+  to.setAttribute("aria-label", `the later time for the capability at ${there}`);
+  const move = () => {
+    const typed = timeOf(to.value);
+    return typed.fault ? say(`move: ${typed.fault}`, true) : execute({ ...line, to: typed.time });
+  };
+  form.addEventListener("submit", (event) => { event.preventDefault(); move(); });
+  const release = button("release", () => execute(line)), press = button("move to", move);
+  release.setAttribute("aria-label", `release the capability at ${there}`);
+  form.append(release, press, to);
+  return form;
+}
+
+// ---- the feed of an input
+
+const ENDS = ["next", "to", "stay", "close"];
+const feedControls = {
+  which: select("the input", [], -1, () => {}),
+  values: made("input"),
+  end: select("what its token does then", ["advance to the next epoch", "advance to epoch", "stay", "close"], 0, () => showFeed()),
+  to: made("input"),
+  press: made("button", "feed"),
+};
+
+function buildFeed() {
+  const { which, values, end, to, press } = feedControls;
+  values.placeholder = "as 2 3";
+  values.setAttribute("aria-label", "values");
+  to.setAttribute("aria-label", "epoch");
+  to.size = 6;
+  by("feed").append(which, field("values", values), end, to, press, made("span", "every input is closed", "none"));
+  by("feed").addEventListener("submit", (event) => { event.preventDefault(); feed(); });
+}
+
+function feedLine() {
+  const { which, values, end, to } = feedControls;
+  const it = picture.inputs[which.selectedIndex], word = ENDS[end.selectedIndex];
+  const given = valuesOf(values.value), epoch = numbersOf(to.value, 0n, GREATEST_COUNTER);
+  if (given.fault) return { fault: `feed: ${given.fault}` };
+  if (word === "to" && (epoch.fault || epoch.numbers.length !== 1)) return { fault: `feed: the epoch: ${epoch.fault || "one number is wanted"}` };
+  const next = word === "to" ? `{"to":${epoch.numbers[0]}}` : `"${word}"`;
+  return { text: `{"do":"feed","p":${it.p},"vertex":${JSON.stringify(it.vertex)},"values":[${given.numbers.join(",")}],"next":${next}}` };
+}
+
+async function feed() {
+  const { text, fault } = feedLine();
+  if (fault) {
+    say(fault, true);
+    return feedControls.values.focus();
+  }
+  await execute(text);
+  if (isRefused) return undefined;
+  feedControls.values.value = feedControls.to.value = "";
+  return showFeed();
+}
+
+function showFeed() {
+  const { inputs } = picture, { which, values, end, to, press } = feedControls;
+  const old = which.selectedIndex, none = by("feed").querySelector(".none");
+  const texts = inputs.map((it) => `${it.vertex} of processor ${it.p} (epoch ${it.epoch})`);
+  options(which, texts, Math.min(Math.max(0, old), inputs.length - 1));
+  for (const it of [which, values.parentElement, end, press]) it.hidden = !inputs.length;
+  none.hidden = Boolean(inputs.length);
+  to.hidden = !inputs.length || ENDS[end.selectedIndex] !== "to";
+  if (inputs.length && !to.value) to.value = inputs[which.selectedIndex].epoch + 2;
+}
+
+// ---- conditions
+
+const whenKinds = ["passed", "finished"];
+const whenControl = select("the condition", ["the processor has passed the point", "the point is finished in truth"], 0, () => {});
+
+// The condition that is chosen; undefined, with a word to the person, if no point is.
+function atomOf() {
+  if (chosen.place === null || !chosen.time) {
+    say("which point? click a vertex, an edge or a number of a view first", true);
+    return undefined;
+  }
+  const { at } = question();
+  return whenKinds[whenControl.selectedIndex] === "passed" ? { passed: { q: chosen.q, at, time: chosen.time } } : { finished: { at, time: chosen.time } };
+}
+
+function buildConditions() {
+  by("when").append(
+    made("span", "of the processor and point that are asked about: "), whenControl,
+    button("show where it holds", () => { const when = atomOf(); if (when) { sight.when = when; inTurn(refresh); } }),
+    button("break when it holds", () => { const when = atomOf(); if (when) execute({ do: "break", when }); }),
+  );
+}
+
+function turnWords({ at_lo: atLo, turns, count, more, to }) {
+  const start = atLo ? "holds at the start" : "does not hold at the start";
+  const rest = to < picture.kept && !more ? `; positions up to ${to} were looked at` : "";
+  if (!count) return `${start}, and that stays so${rest}`;
+  const others = more || count > turns.length ? `, ... (${more ? "more than " : ""}${count} in all)` : "";
+  return `${start}, and changes at ${turns.join(", ")}${others}${rest}`;
+}
+
+function showTurns() {
+  const told = picture.turns, turns = (told && told.turns) || [];
+  const said = !told ? "" : told.error ? told.error : `${told.when}: ${turnWords(told)}`;
+  const buttons = turns.map((at) => {
+    const it = button(`${at}`, () => jump(at));
+    it.setAttribute("aria-label", `go to position ${at}`);
+    return it;
+  });
+  redrawn(by("turns"), made("p", said), ...buttons);
+}
+
+// ---- all
+
+function show() {
+  by("cursor").textContent = `position ${picture.at} of ${picture.kept}`;
+  by("back").disabled = by("first").disabled = picture.at === 0;
+  by("redo").disabled = by("last").disabled = picture.at === picture.kept;
+  by("bring-back").hidden = !picture.dropped;
+  by("slider").max = picture.kept;
+  by("slider").value = picture.at;
+  Object.assign(document.body.dataset, { position: picture.at, kept: picture.kept, revision });
+  showPicture();
+  showFeed();
+  showTurns();
+}
+
+function limit() {
+  const given = numbersOf(by("limit").value, 0n, 1000000n);
+  if (!given.fault && given.numbers.length === 1) return Number(given.numbers[0]);
+  say(`run: at most how many steps? ${given.fault || "one number is wanted"}`, true);
+  return null;
+}
+
+// Runs the processors that are chosen, or all if none is.
+function run(count) {
+  if (count === null) return undefined;
+  const only = [...onlyChosen].sort((one, other) => one - other);
+  return execute({ do: "run", limit: count, ...(only.length ? { only } : {}) }, runInPieces);
+}
+
+function showOnly() {
+  if (about.processors === 1) return;
+  by("only").append("only processor", ...processors().map((name, p) => {
+    const it = button(`${p}`, () => {
+      if (!onlyChosen.delete(p)) onlyChosen.add(p);
+      it.setAttribute("aria-pressed", onlyChosen.has(p));
+    });
+    it.title = `next step and run execute steps of ${name}; of all processors if none is chosen`;
+    it.setAttribute("aria-label", `only ${name}`);
+    it.setAttribute("aria-pressed", false);
+    return it;
+  }));
+}
+
+function goTo() {
+  const given = numbersOf(by("position").value, 0n, BigInt(picture.kept));
+  if (given.fault || given.numbers.length !== 1) return say(`go to: ${given.fault || "one position is wanted"}`, true);
+  return jump(Number(given.numbers[0]));
+}
+
+const source = {
+  isLive: true,
+  execute,
+  releaseForm,
+  goToStep: jump,
+  showFrom(key, first) { sight[key] = first; return inTurn(refresh); },
+  async why(question_) {
+    let told;
+    await inTurn(async () => { told = await asked("why", question_); });
+    return told;
+  },
+  actions: {
+    back: () => inTurn(() => command(textOf({ do: "back" }))),
+    redo: () => inTurn(() => command(textOf({ do: "redo" }))),
+    first: () => jump(0),
+    last: () => jump(picture.kept),
+    next: () => run(1),
+    run: () => run(limit()),
+    save,
+    "bring-back": bringBack,
+  },
+  keys: { ArrowLeft: "back", ArrowRight: "redo", Home: "first", End: "last", n: "next", r: "run", s: "save" },
+};
+
+const GONE = "the server is gone: this page shows what it answered last; start tools/live again";
+function watchServer() {
+  const beats = new EventSource("beats");
+  beats.addEventListener("message", (event) => {
+    const [now, ended] = JSON.parse(event.data);
+    if (ended) return say(`${ended}; start tools/live again`, true);
+    newest = now;
+    if (picture && now > revision && !waiting) inTurn(refresh);
+    return undefined;
+  });
+  beats.addEventListener("error", () => { by("gone").hidden = false; by("gone").textContent = GONE; });
+  beats.addEventListener("open", () => { by("gone").hidden = true; });
+}
+
+by("goto").addEventListener("submit", (event) => { event.preventDefault(); goTo(); });
+by("slider").addEventListener("input", () => { by("cursor").textContent = `position ${by("slider").value} of ${picture.kept}`; });
+by("slider").addEventListener("change", () => jump(Number(by("slider").value)));
+by("cancel").addEventListener("click", () => {
+  isCancelled = true;
+  say("cancelled");
+  progress("cancelled; the question under way is still answered");
+});
+buildFeed();
+buildConditions();
+showOnly();
+watchServer();
+inTurn(refresh);

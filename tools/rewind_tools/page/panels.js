@@ -1,0 +1,274 @@
+"use strict";
+// What can happen, what the last step changed, why a time is not finished, the table, and what processors hold.
+const chosen = { q: 0, place: null, time: null, before: false };
+
+// Which page of a long list is shown, with buttons to the pages before and after it; nothing if one page has all.
+// A recorded page has the first one alone.
+function pager(key, { first, count, more }, shown) {
+  if (shown === count && !more) return [];
+  if (!source.isLive) return [made("p", `the first ${shown} of ${more ? "more than " : ""}${count}`, "none")];
+  const earlier = button("\u25c0", () => source.showFrom(key, Math.max(0, first - 1)));
+  const later = button("\u25b6", () => source.showFrom(key, first + shown));
+  earlier.setAttribute("aria-label", "show the ones before these");
+  later.setAttribute("aria-label", "show the next ones");
+  earlier.disabled = first === 0;
+  later.disabled = first + shown >= count;
+  const row = made("div", undefined, "bar");
+  row.append(earlier, made("span", `${first + 1} to ${first + shown} of ${more ? "more than " : ""}${count}`, "soft"), later);
+  return [row];
+}
+
+// ---- what can happen, and what changed
+
+function candidate(it) {
+  const row = made("li"), classes = `kind-${it.kind}${it.refused ? " waits" : ""}`;
+  if (!source.isLive) {
+    row.append(made("span", it.words, `step-words ${classes}`));
+    if (it.refused) row.append(made("small", it.refused));
+    return row;
+  }
+  const act = () => (it.refused ? explain(it) : source.execute(it.line));
+  // a list that is not yet the newest is not acted on
+  const press = button(it.words, () => (picture.candidates ? act() : undefined), classes);
+  if (it.refused) press.append(made("small", it.refused));
+  row.append(press);
+  if (it.release) row.append(source.releaseForm(it.release));
+  return row;
+}
+
+function explain(it) {
+  if (!it.ask) return say(it.refused, true);
+  Object.assign(chosen, { q: it.ask.q, time: it.ask.time, before: Boolean(it.ask.before) });
+  chosen.place = placeNumber(it.ask.at);
+  return askWhy();
+}
+
+function showCandidates() {
+  by("candidates").setAttribute("aria-busy", !picture.candidates);
+  if (!picture.candidates) return;
+  const rows = picture.candidates.items.map(candidate);
+  const none = picture.inputs.length ? "no step is left but a feed" : "no step is left: every input is closed";
+  redrawn(by("candidates"), ...(rows.length ? rows : [made("li", none, "none")]));
+  redrawn(by("more"), ...pager("candidates", picture.candidates, rows.length));
+}
+
+function showEffect() {
+  const { effect } = picture;
+  if (!effect) {
+    const none = picture.at ? "this long page leaves that out here; tools/live has it" : "this is the start";
+    return by("effect").replaceChildren(made("p", none, "none"));
+  }
+  const list = made("ul");
+  list.append(...effect.words.map((text) => made("li", text)));
+  return by("effect").replaceChildren(made("p", `${picture.at}. ${effect.step}`), list);
+}
+
+// ---- why
+
+function placeNumber(name) {
+  return about.places.findIndex((it) => it.name === name);
+}
+
+// The question of the panel "why", if a place is chosen. Without a time it is about the earliest that can arrive.
+function question() {
+  if (chosen.place === null) return null;
+  return { q: chosen.q, at: about.places[chosen.place].name, time: chosen.time, before: chosen.before };
+}
+
+async function askWhy() {
+  const told = await source.why(question());
+  if (!told) return;
+  picture.why = told;
+  if (told.time) chosen.time = told.time;
+  showPlaces();
+  showWhy();
+}
+
+function choosePlace(number) {
+  Object.assign(chosen, { place: number, time: null, before: false });
+  return askWhy();
+}
+
+const whyControls = {
+  q: select("the processor that is asked", processors(), 0, (q) => { chosen.q = q; if (chosen.place !== null) askWhy(); }),
+  at: select("the vertex or edge", about.places.map((it) => it.name), 0, choosePlace),
+  time: made("input"),
+  before: made("input"),
+};
+
+function buildWhy() {
+  const { q, at, time, before: strictly } = whyControls;
+  time.size = 8;
+  time.addEventListener("change", () => {
+    const typed = timeOf(time.value);
+    if (typed.fault) return say(`why: ${typed.fault}`, true);
+    chosen.time = typed.time;
+    return askWhy();
+  });
+  strictly.type = "checkbox";
+  strictly.addEventListener("change", () => { chosen.before = strictly.checked; askWhy(); });
+  by("why-form").append(q, field("at", at), field("time", time), field("strictly before it", strictly));
+}
+
+function showWhyForm() {
+  const { q, at, time, before: strictly } = whyControls;
+  by("why-form").hidden = chosen.place === null;
+  q.selectedIndex = chosen.q;
+  at.selectedIndex = chosen.place === null ? -1 : chosen.place;
+  if (document.activeElement !== time || chosen.time) time.value = chosen.time ? chosen.time.join(",") : "";
+  strictly.checked = chosen.before;
+}
+
+function showWhy() {
+  const told = picture.why;
+  showWhyForm();
+  showHolding((told && told.reasons) || []);
+  if (!told) {
+    const how = "click a vertex or an edge, a number of a view, or a step that waits";
+    return by("why").replaceChildren(made("p", how, "none"));
+  }
+  if (told.error) return by("why").replaceChildren(made("p", told.error, "refused"));
+  const { at } = question(), point = `${at} ${timeText(told.time)}`;
+  const there = chosen.before ? `all that is strictly before ${point}` : point;
+  const list = made("ul");
+  list.append(...told.reasons.map((it) => made("li", it.words)));
+  if (told.more) list.append(made("li", `and ${told.more} more`, "none"));
+  if (!told.passed) list.append(made("li", `in truth ${there} is ${told.finished ? "" : "not "}finished`, "none"));
+  const verdict = `processor ${chosen.q} ${told.passed ? "knows" : "does not know"} that ${there} is finished${told.passed ? "" : ":"}`;
+  const arrive = told.times ? `can still arrive at ${at}, as far as processor ${chosen.q} knows: ${told.times} and later` : `processor ${chosen.q} knows that nothing can arrive at ${at} any more`;
+  return by("why").replaceChildren(made("p", verdict), list, made("p", arrive, "none"));
+}
+
+// ---- the table, the processors, the breakpoints
+
+function cell(text, old, classes) {
+  const it = made("td", undefined, classes.filter(Boolean).join(" "));
+  it.append(made("span", text === "" ? "\u00b7" : text));
+  if (text === "" || text === "0") it.classList.add("none");
+  if (old !== undefined && old !== text) it.classList.add("changed");
+  return it;
+}
+
+function viewCell(row, text, p, old) {
+  const it = cell(text, old, [p === 0 && "edged", text !== row.truth && "apart", row.front[p] && "front"]);
+  const [place, time] = row.at.split("\u00a0");
+  const press = button(text, () => {
+    Object.assign(chosen, { q: p, place: placeNumber(place), time: timeOf(time).time, before: false });
+    askWhy();
+  });
+  const front = row.front[p] ? ", on its frontier" : "";
+  press.setAttribute("aria-label", `processor ${p} views ${text} at ${place} ${time}${front}, the truth is ${row.truth}: ask why`);
+  it.replaceChildren(press);
+  return it;
+}
+
+// A row of the table. `old` is the row of the picture before, if there is one.
+function pointRow(row, old) {
+  const it = made("tr"), was = (kind, p) => old && old[kind][p];
+  const point = made("th", row.at);
+  point.scope = "row";
+  it.append(point, cell(row.truth, old && old.truth, ["edged"]));
+  it.append(...row.view.map((text, p) => viewCell(row, text, p, was("view", p))));
+  it.append(...row.unsent.map((text, p) => cell(text, was("unsent", p), [p === 0 && "edged"])));
+  return it;
+}
+
+function emptyRow(at) {
+  const all = (text) => Array.from({ length: about.processors }, () => text);
+  return { at, truth: "0", view: all("0"), unsent: all(""), front: all(0) };
+}
+
+function columnHead(text, words, classes) {
+  const it = made("th", text, classes);
+  it.scope = "col";
+  if (words !== text) it.setAttribute("aria-label", words);
+  return it;
+}
+
+function tableHead() {
+  const head = made("tr");
+  head.append(columnHead("point", "location and time"), columnHead("truth", "truth", "edged"));
+  for (const kind of ["view", "unsent"]) {
+    for (let p = 0; p < about.processors; p += 1) {
+      head.append(columnHead(p === 0 ? `${kind} 0` : `${p}`, `${kind} of processor ${p}`, p === 0 ? "edged" : ""));
+    }
+  }
+  return head;
+}
+
+// The rows of now, and those that are gone since the picture before.
+function tableRows() {
+  const { points, first, count } = picture.state;
+  const isAll = points.length === count && before && before.state && before.state.points.length === before.state.count;
+  const old = new Map((isAll ? before.state.points : []).map((it) => [it.at, it]));
+  const here = new Set(points.map((it) => it.at));
+  const gone = first === 0 && isAll ? before.state.points.filter((it) => !here.has(it.at)) : [];
+  return [...points, ...gone.map((it) => emptyRow(it.at))].map((it) => pointRow(it, isAll ? old.get(it.at) || emptyRow(it.at) : undefined));
+}
+
+function showPoints() {
+  const table = made("table"), rows = tableRows();
+  table.append(tableHead(), ...rows);
+  const wide = made("div", undefined, "wide");
+  wide.append(rows.length ? table : made("p", "nothing is outstanding", "none"));
+  const pages = pager("points", picture.state, picture.state.points.length);
+  redrawn(by("points"), made("h2", "Truth, views and unsent updates"), ...pages, wide);
+}
+
+function processorRow(it, p) {
+  const row = made("div", undefined, "row");
+  row.append(made("b", `processor ${p}`));
+  const old = before && before.state && before.state.processors[p];
+  for (const [kind, texts] of Object.entries(it)) {
+    const isChanged = old && JSON.stringify(old[kind]) !== JSON.stringify(texts);
+    if (!texts.length && !isChanged) continue;
+    row.append(made("span", `${kind} `, isChanged ? "changed" : "none"));
+    row.append(...(texts.length ? texts : ["none"]).map((text) => made("span", text, "chip")));
+  }
+  if (row.childElementCount === 1) row.append(made("span", "nothing", "none"));
+  return row;
+}
+
+function queueRow(it) {
+  const row = made("div", undefined, "row");
+  row.append(made("b", `${it.from} \u2192 ${it.to}`), ...it.changes.map((text) => made("span", text, "chip")));
+  return row;
+}
+
+function showProcessors() {
+  by("processors").replaceChildren(made("h2", "What each processor holds"), ...picture.state.processors.map(processorRow));
+  const queues = picture.state.queues.map(queueRow), none = made("p", "all queues are empty", "none");
+  by("queues").replaceChildren(made("h2", "Updates on their way, the first to arrive first"), ...(queues.length ? queues : [none]));
+}
+
+function showBreaks() {
+  const rows = picture.breaks.map((it) => {
+    const row = made("div", undefined, "row");
+    row.append(made("b", `breakpoint ${it.id}`, it.holds ? "changed" : ""), made("span", it.when + (it.holds ? ": the run stopped here" : "")));
+    if (source.isLive) {
+      const remove = button("remove", () => source.execute({ do: "unbreak", id: it.id }));
+      remove.setAttribute("aria-label", `remove breakpoint ${it.id}`);
+      row.append(remove);
+    }
+    return row;
+  });
+  const none = source.isLive ? [] : [made("span", "no breakpoint is set", "none")];
+  redrawn(by("breaks"), ...(rows.length ? rows : none));
+}
+
+// ---- all
+
+function showPicture() {
+  showSteps();
+  showPlaces();
+  showCandidates();
+  showEffect();
+  showWhy();
+  showPoints();
+  showBreaks();
+  showProcessors();
+  showCursor();
+  showChangedPlace();
+}
+
+buildWhy();

@@ -1,0 +1,68 @@
+"""The loops of a graph, and the frame round each: a rectangle in each row of the drawing in which the loop
+has vertices. Where another vertex stands in such a rectangle, the frame follows the loop's vertices and
+edges."""
+
+# How far the frame of an outermost loop goes beyond what is in it.
+RIM = 14
+
+
+def loops_of(graph):
+    """The loops of a graph, outer ones first: of each its depth and its vertices, which edges join."""
+    depths = {it["name"]: it["depth"] for it in graph["vertices"]}
+    found = []
+    for depth in range(1, max(depths.values(), default=0) + 1):
+        group = {it: frozenset([it]) for it, at in depths.items() if at >= depth}
+        for it in graph["edges"]:
+            if it["from"] in group and it["to"] in group:
+                joined = group[it["from"]] | group[it["to"]]
+                group.update(dict.fromkeys(joined, joined))
+        loops = dict.fromkeys(group[it] for it in depths if it in group)
+        found += [(depth, [it for it in depths if it in inside]) for inside in loops]
+    return found
+
+
+def box_of(middle, size, rim=0):
+    """A box as its left, top, right and bottom."""
+    (x, y), (wide, high) = middle, size
+    return x - wide / 2 - rim, y - high / 2 - rim, x + wide / 2 + rim, y + high / 2 + rim
+
+
+def around(boxes, rim):
+    """The box around boxes."""
+    left, top, right, bottom = zip(*boxes)
+    return min(left) - rim, min(top) - rim, max(right) + rim, max(bottom) + rim
+
+
+def meet(one, other):
+    return one[0] < other[2] and other[0] < one[2] and one[1] < other[3] and other[1] < one[3]
+
+
+def rect(box):
+    left, top, right, bottom = (round(it, 1) for it in box)
+    return f'<rect x="{left:g}" y="{top:g}" width="{right - left:g}" height="{bottom - top:g}" rx="12"/>'
+
+
+def frames(drawn, inner, others, rim):
+    """The boxes around what is in a loop: one for each row, or, if another vertex would be in it, one for
+    each thing."""
+    found = []
+    for top, bottom in drawn.bands:
+        there = [it for it in inner if top - 1 <= (it[1] + it[3]) / 2 <= bottom + 1]
+        one = [around(there, rim)] if there else []
+        is_free = not any(meet(*one, it) for it in others) if one else True
+        found += one if is_free else [around([it], rim) for it in there]
+    return found
+
+
+def loop_svg(graph, drawn, sizes, depth, inside):
+    """The frame of a loop. `sizes` has those of vertices and of labels."""
+    boxes, labels = sizes
+    rim, edges = RIM / depth, [it for it in graph["edges"] if it["from"] in inside and it["to"] in inside]
+    inner = [box_of(drawn.nodes[it], boxes[it]) for it in inside]
+    inner += [box_of(drawn.labels[it["name"]], labels[it["name"]]) for it in edges]
+    curves = [it for edge in edges for it in drawn.curves[edge["name"]]]
+    inner += [around([(x, y, x, y) for x, y in it], 0) for it in curves]
+    others = [box_of(drawn.nodes[it], boxes[it]) for it in boxes if it not in inside]
+    ground = "".join(map(rect, frames(drawn, inner, others, rim)))
+    # the rims of all rectangles, and the grounds of all over them: so the rim is that of all together
+    return f'<g class="{"deep" if depth % 2 == 0 else "loop"}"><g class="rim">{ground}</g>{ground}</g>'

@@ -1,0 +1,236 @@
+"""The page of a run that is recorded: a position for each line that is answered, and before a run's own one
+for each of its steps but the last.
+
+What a position shows is asked of a copy of the script, in the last version, by one client: the picture that
+a live page would show, and why processors do not consider points finished."""
+import json
+from html import escape
+
+from rewind_tools.live.pictures import Pictures
+from rewind_tools.page import SCRIPTS, filled, graph_of, part, places_of
+from rewind_tools.runs import run_script, without_clients
+from rewind_tools.script import COMMANDS, STEPS
+from rewind_tools.session import Ended, Session
+from rewind_tools.showing.packing import Packer
+from rewind_tools.showing.states import order_of
+from rewind_tools.telling import faults
+from rewind_tools.telling.commands import command_words, counted, time_in
+from rewind_tools.telling.table import Points
+
+# How many steps of runs a page shows at most, those that end a run aside; how long a line or a reply is;
+# how many points of the table it shows; and for how many states it asks what the last step changed.
+MOST_STEPS, LONGEST, ROWS, MOST_EFFECTS = 10_000, 2000, 400, 1000
+# How many queries for reasons a page asks about all points, and how many more about fewer of them: those
+# that the script's lines name, and those at which a vertex waits for its notification.
+MOST, MOST_OF_FEWER = 20_000, 20_000
+# The words of lines that ask about a point, or wait at one.
+NAMING = ("passed", "why", "notice", "release")
+FOLLOWED = ("error", "code", "at", "kept", "ok", "ran")
+
+
+def dumped(value):
+    """A value as the program writes it: compact, keys in order."""
+    return json.dumps(value, separators=(",", ":"), sort_keys=True, ensure_ascii=False)
+
+
+def cut(text):
+    return text if len(text) <= LONGEST else f"{text[:LONGEST]} .. ({counted(len(text), 'letter')} in all)"
+
+
+def named_points(told):
+    """The points that the script's own lines ask about, in their order, each once."""
+    values = [it.line.value for it in told.entries if it.line and "error" not in it.reply]
+    asked = [it for it in values if isinstance(it, dict) and it.get("do") in NAMING]
+    return list(dict.fromkeys((it.get("at", it.get("vertex")), tuple(it["time"])) for it in asked))
+
+
+class Copy:
+    """The copy of a script, from which the pictures come. It is there until it answers a line in another way
+    than the script, or ends."""
+
+    def __init__(self, told, words, teller):
+        self.session = Session(told.graph, without_clients(words))
+        self.pictures, self.named = Pictures(self.session, teller), named_points(told)
+        self.left = {"all": MOST, "fewer": MOST_OF_FEWER}
+        self.revision, self.is_there = 0, "locations" in self.session.started
+        self.at = self.kept = 0
+        self.whys_told = (None, None)
+
+    def execute(self, value):
+        """Executes a command; its reply."""
+        reply = self.session.ask(value)
+        if value["do"] in (*STEPS, "run"):
+            self.pictures.forget_from(self.at)
+        self.revision += 1
+        self.at, self.kept = reply.get("at", self.at), reply.get("kept", self.kept)
+        return reply
+
+    def follow(self, entry):
+        """Executes the line of a command."""
+        value = entry.line.value if entry.line and "line" not in entry.reply else None
+        if isinstance(value, dict) and value.get("do") in COMMANDS:
+            reply = self.execute({key: it for key, it in value.items() if key != "client"})
+            self.is_there = all(reply.get(key) == entry.reply.get(key) for key in FOLLOWED)
+
+    def go_to(self, position):
+        """Goes to a position within a run, and returns the step that leads there."""
+        self.execute({"do": "jump", "to": position})
+        return self.session.ask({"do": "step", "to": position})["step"]
+
+    def picture(self, kept, stopped):
+        """The picture at the cursor, of so many kept steps; `stopped` is the id of the breakpoint at which a
+        run stopped."""
+        sight = {"rows": ROWS, "effect": self.revision <= MOST_EFFECTS}
+        told = self.pictures.of(self.at, kept, self.revision, sight)
+        told["marked"] = []
+        told["breaks"] = [{**it, "holds": it["id"] == stopped} for it in told["breaks"]]
+        return told
+
+    @property
+    def state(self):
+        return self.pictures.at_cursor(self.at, self.revision)[0]["state"]
+
+    def whys(self):
+        """Which points the page has answers about here, and the answers by processor and point."""
+        if self.whys_told[0] != self.revision:
+            self.whys_told = self.revision, self.ask_whys()
+        return self.whys_told[1]
+
+    def ask_whys(self):
+        state, order = self.state, self.pictures.order
+        points, count = Points(state, order), len(state["processors"])
+        waiting = [(place, tuple(time)) for it in state["processors"] for place, time in it["requests"]]
+        for asked, wanted in (("all", points.all()), ("fewer", waiting)):
+            wanted = sorted({*wanted, *self.named}, key=points.place)
+            queries = (len(wanted) + len({place for place, _ in wanted})) * count
+            if queries <= self.left[asked]:
+                self.left[asked] -= queries
+                return asked, self.asked([(q, *it) for q in range(count) for it in wanted])
+        return "none", {}
+
+    def asked(self, wanted):
+        """The answers about points by processor."""
+        places = list(dict.fromkeys((q, place) for q, place, _ in wanted))
+        lines = [{"do": "frontier", "q": q, "at": place} for q, place in places]
+        arriving = dict(zip(places, self.session.ask_all(lines))) if lines else {}
+        questions = [{"q": q, "at": it, "time": list(time), "before": False} for q, it, time in wanted]
+        answers = self.pictures.whys(questions, [arriving[it[:2]] for it in wanted]) if wanted else []
+        return {f"{q} {place} {time_in(time)}": it for (q, place, time), it in zip(wanted, answers)}
+
+
+class Recorder:
+    """The positions of a page, one after the other."""
+
+    def __init__(self, told, script, words):
+        self.teller = faults.teller_of(told, script)
+        has_graph = any("locations" in it.reply for it in told.entries)
+        self.copy = Copy(told, words, self.teller) if has_graph else None
+        self.packer, self.ends, self.ats, self.steps_left = Packer(), [], [], MOST_STEPS
+        self.begun, self.before = False, None
+
+    def add(self, entry):
+        """Adds the positions of one line."""
+        asked, answer = faults.told_line(entry, self.before, self.teller)
+        first = len(self.ats)
+        said = self.try_copy(entry) if self.begun else []
+        self.begun = self.begun or "locations" in entry.reply
+        self.place(entry, {**shown_line(entry), "asked": asked, "answer": answer + said}, None)
+        self.ends += [len(self.ats) - 1] * (len(self.ats) - first)
+        self.before = self.of_copy(lambda: self.copy.state)
+
+    def of_copy(self, ask):
+        """What is asked of the copy, None if it is not there."""
+        if not self.copy or not self.copy.is_there or not self.begun:
+            return None
+        try:
+            return ask()
+        except Ended:
+            self.copy.is_there = False
+            return None
+
+    def try_copy(self, entry):
+        """Has the copy follow a line; returns what the page says of it beside the program's answer."""
+        return self.of_copy(lambda: self.follow(entry)) or []
+
+    def follow(self, entry):
+        """Has the copy follow a line, and adds the steps of a run but the last."""
+        self.copy.follow(entry)
+        last, ran = entry.reply.get("at"), entry.reply.get("ran", 0)
+        if not ran or not self.copy.is_there:
+            return []
+        shown = range(last - ran + 1, last)[: self.steps_left]
+        for position in shown:
+            step = command_words(self.copy.go_to(position))
+            number = position - last + ran
+            self.place(entry, {"step": number, "ran": ran, "asked": step, "answer": []}, position)
+        self.steps_left -= len(shown)
+        said = [f"its last step: {command_words(self.copy.go_to(last))}"]
+        left_out = ran - 1 - len(shown)
+        if left_out:
+            said.append(f"this page leaves out {counted(left_out, 'step')} before it")
+        return said
+
+    def place(self, entry, shown, position):
+        """Adds a position, within a run or of a line, with what the copy shows there."""
+        stop = entry.reply.get("stop") if position is None else None
+        stopped = stop["break"] if isinstance(stop, dict) else None
+
+        def picture():
+            return self.copy.picture(self.copy.kept if position is None else position, stopped)
+
+        told = self.of_copy(picture)
+        which, whys = (self.of_copy(self.copy.whys) if told else None) or ("none", {})
+        line = {"line": entry.line and entry.line.number, "client": entry.client}
+        self.packer.add({**line, **shown, "picture": told, "which": which, "why": whys})
+        self.ats.append(told["at"] if told else None)
+
+
+def shown_line(entry):
+    """A line and its reply as they are; of a refused graph the place that the reply names."""
+    return {
+        "text": cut(entry.line.text.decode(errors="backslashreplace").strip()) if entry.line else "",
+        "reply": cut(dumped(entry.reply)),
+        "refused": "error" in entry.reply,
+        "mark": order_of(entry.line.value)[entry.reply["location"]] if "location" in entry.reply else None,
+    }
+
+
+def recorded(told, script, words, report):
+    """The data of a page. How many lines and positions are done is reported."""
+    recorder = Recorder(told, script, words)
+    try:
+        for done, entry in enumerate(told.entries, 1):
+            recorder.add(entry)
+            report(done, len(told.entries), len(recorder.ats))
+    finally:
+        if recorder.copy:
+            recorder.copy.session.close()
+    return {"ends": recorder.ends, "ats": recorder.ats, **recorder.packer.packed()}
+
+
+def embedded(value):
+    """A value as JSON that may stand inside a script element."""
+    text = json.dumps(value, separators=(",", ":"), ensure_ascii=False)
+    return text.replace("<", "\\u003c").replace(">", "\\u003e").replace("&", "\\u0026")
+
+
+def page_of(name, script, words, uses_dot=True, report=lambda *counts: None):
+    """The page of a script's run, and the run."""
+    told = run_script(script, words, ())
+    start = next((it.reply for it in told.entries if "locations" in it.reply), {})
+    has_form = start or any("location" in it.reply for it in told.entries[:1])
+    graph = told.graph if has_form else {"vertices": [], "edges": []}
+    count = start.get("processors", 0)
+    none = {"graph": "<p>The program has read no graph.</p>", "size": "", "loops": ""}
+    drawn = graph_of(graph, count, uses_dot) if has_form else none
+    about = {"processors": count, "places": places_of(graph), "name": name}
+    run = recorded(told, script, words, report)
+    values = {
+        "title": escape(f"{name}, {counted(count, 'processor')}" if start else name),
+        "command": escape(" ".join(["rewind", *words, "<", name])),
+        "about": escape(json.dumps(about)), **drawn, "last": str(len(run["ats"]) - 1),
+        "style": f"<style>\n{part('page.css')}</style>",
+        "scripts": f'<script type="application/json" id="recorded">{embedded(run)}</script>\n<script>\n'
+        + "\n".join(map(part, SCRIPTS["recorded"])) + "</script>",
+    }  # fmt: skip
+    return filled("recorded", values), told

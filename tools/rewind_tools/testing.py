@@ -1,0 +1,155 @@
+"""How the tests of the tools run: unittest, with a last line that ./check reads, and a terminal to type at.
+
+    class Cases(testing.Case): ..
+    testing.run("repl")      usage: tools/test_repl [CASE ..], as Cases.test_steps; all if none is named
+
+Each test counts once, and so does each of its subtests. The program is what REWIND_PROGRAM names in the
+environment, or else the one that is proved and built: so this module is imported before the others."""
+import argparse
+import fcntl
+import os
+import pty
+import re
+import select
+import signal
+import subprocess
+import sys
+import termios
+import time
+import unittest
+
+# The flag of tests of a program that is built without proofs, for what the gate/ leaves out then.
+UNPROVED = ("--unproved", "leave out what only the proved program can be asked")
+ONLY_PROVED = unittest.skipIf(UNPROVED[0] in sys.argv, "only the proved program can be asked")
+TOOLS = os.path.dirname(os.path.dirname(os.path.realpath(__file__)))
+TOP = os.path.dirname(TOOLS)
+BUILT = os.path.join(TOP, "crates", "rewind_cli", "out", "rewind_cli")
+# Before rewind_tools.runs is imported, which looks at it.
+PROGRAM = os.environ.setdefault("REWIND_PROGRAM", BUILT)
+SECONDS = 60
+CTRL_C = "\x03"
+# A graph on which a record of input a goes round a loop for ever.
+ROUND = (
+    '{"vertices":[{"name":"a","op":"input","depth":0},{"name":"in","op":"ingress","depth":0},'
+    '{"name":"again","op":"below","depth":1,"k":9},{"name":"next","op":"feedback","depth":1}],'
+    '"edges":[{"name":"a-in","from":"a","port":0,"to":"in","route":"local"},'
+    '{"name":"in-again","from":"in","port":0,"to":"again","route":"local"},'
+    '{"name":"again-next","from":"again","port":0,"to":"next","route":"local"},'
+    '{"name":"next-again","from":"next","port":0,"to":"again","route":"local"}]}'
+)
+
+
+class Counting(unittest.TestResult):
+    """The tests that have passed, and what failed."""
+
+    def __init__(self):
+        super().__init__()
+        self.passed = 0
+
+    def addSuccess(self, test):
+        self.passed += 1
+
+    def addSubTest(self, test, subtest, error):
+        super().addSubTest(test, subtest, error)
+        self.passed += error is None
+
+
+class Case(unittest.TestCase):
+    """A test of several things, each of which counts."""
+
+    def same(self, name, got, wanted):
+        with self.subTest(name):
+            self.assertEqual(got, wanted)
+
+    def holds(self, name, is_right, got=""):
+        with self.subTest(name):
+            self.assertTrue(is_right, got)
+
+
+def run(name, needs_program=True, flags=()):
+    """Runs the tests of the main module, and ends with what was counted. Flags are words that the module
+    itself looks for, each with its help."""
+    main, loader, result = sys.modules["__main__"], unittest.defaultTestLoader, Counting()
+    words = argparse.ArgumentParser(
+        description=main.__doc__, formatter_class=argparse.RawDescriptionHelpFormatter
+    )
+    words.add_argument("cases", nargs="*", metavar="CASE", help="a class of tests, or one as Class.test_it")
+    for flag, said in flags:
+        words.add_argument(flag, action="store_true", help=said)
+    cases = words.parse_args().cases
+    if needs_program and not os.path.exists(PROGRAM):
+        print(f"{name}: the program is not built; './rewind --prove' proves and builds it")
+        print(f"{name}: 0 passed, 1 failed")
+        sys.exit(1)
+    # (a shell has commands in the background ignore Ctrl-C, as ./check runs these, and what they start, too)
+    signal.signal(signal.SIGINT, signal.default_int_handler)
+    suite = loader.loadTestsFromNames(cases, main) if cases else loader.loadTestsFromModule(main)
+    suite.run(result)
+    failed = result.failures + result.errors
+    for test, why in result.skipped:
+        print(f"{name}/{test}: left out, {why}")
+    for test, trace in failed:
+        print(f"{name}/{test}: {trace[-3000:]}")
+    print(f"{name}: {result.passed} passed, {len(failed)} failed")
+    sys.exit(1 if failed else 0)
+
+
+def open_terminal():
+    """Both ends of a terminal; a test is skipped where none can be had."""
+    try:
+        return pty.openpty()
+    except OSError as none:
+        raise unittest.SkipTest(f"there is no terminal: {none}") from none
+
+
+class Terminal:
+    """A command at a terminal, at which somebody types."""
+
+    def __init__(self, command, home, **environment):
+        self.reader, writer = open_terminal()
+        self.process = subprocess.Popen(
+            command,
+            **{"stdin": writer, "stdout": writer, "stderr": writer, "start_new_session": True},
+            env={**os.environ, "HOME": home, "TERM": "dumb", **environment},
+            # so that Ctrl-C, as a key, interrupts the command
+            preexec_fn=lambda: fcntl.ioctl(0, termios.TIOCSCTTY, 0),
+        )
+        os.close(writer)
+        self.text = self.rest = ""
+
+    def read(self):
+        """Reads what is shown, for at most a while; false if the terminal has ended."""
+        if select.select([self.reader], [], [], 0.1)[0]:
+            try:
+                self.text += os.read(self.reader, 1 << 16).decode(errors="replace").replace("\r\n", "\n")
+            except OSError:
+                return False
+        return True
+
+    def types(self, text, until, after=r".*\d+/\d+> $"):
+        """Types a text, and waits until the terminal shows another, and the prompt after it: what is shown
+        since the text was typed; None if that does not come. A key that is pressed before the prompt is
+        there may be lost. So Ctrl-C is pressed a moment after what is shown: Python may lose one that comes
+        between a question and the reading of its answer."""
+        if text == CTRL_C:
+            time.sleep(0.3)
+        begun, end = len(self.text), time.monotonic() + SECONDS
+        shown = re.compile(re.escape(until) + after, re.DOTALL)
+        os.write(self.reader, text.encode())
+        while not shown.search(self.text, begun) and time.monotonic() < end and self.read():
+            pass
+        return self.text[begun:] if shown.search(self.text, begun) else None
+
+    def ends(self):
+        """Reads what is left, for which the terminal waits: the status of what has ended, None if it has
+        not."""
+        end = time.monotonic() + SECONDS
+        while self.process.poll() is None and time.monotonic() < end:
+            self.read()
+        if self.process.poll() is None:
+            self.process.kill()
+            return None
+        while self.read() and select.select([self.reader], [], [], 0)[0]:
+            pass
+        os.close(self.reader)
+        return self.process.wait()
