@@ -10,6 +10,7 @@ mod faults;
 
 use arrayvec::ArrayVec;
 pub use faults::Code;
+use std::cmp::Ordering;
 use std::marker::Model;
 use thiserror::Error;
 
@@ -30,7 +31,7 @@ pub struct NoMemory;
 /// section 2.1).
 ///
 /// Timestamps are listed by epoch, and then by counters in lexicographic order.
-#[derive(Debug, PartialEq, Eq, PartialOrd, Ord, Drop)]
+#[derive(Debug, PartialEq, Eq, Drop)]
 pub struct Timestamp {
     epoch: u32,
     counters: ArrayVec<u32, MAX_DEPTH>,
@@ -53,6 +54,50 @@ impl Model for Timestamp {
     ghost view = { λ a. record { epoch = a.epoch; counters = a.counters.items } };
 
     ghost inverse = { λ t. record { epoch = t.epoch; counters = record { items = t.counters } } };
+}
+
+impl PartialOrd for Timestamp {
+    ghost use Rattle.std.specs.Prelude.{Some};
+    ghost use Rattle.std.proofs.Common.{rules};
+    ghost use Rattle.std.specs.Cmp.{po};
+    ghost use Rattle.std.specs.Cmp.Rules.{comparing};
+    ghost use Rattle.nd_time.specs.Listing.{time_cmp, time_total};
+
+    ghost partial_cmp = { λ s t. Some (time_cmp s t) };
+
+    ghost laws = { po time_total (Prim.search (comparing, rules)) };
+
+    fn partial_cmp(&self, other: &Timestamp) -> Option<Ordering> {
+        Some(self.cmp(other))
+    }
+}
+
+impl Ord for Timestamp {
+    ghost use Rattle.std.specs.Prelude.{refl};
+    ghost use Rattle.std.proofs.Common.{rules};
+    ghost use Rattle.std.specs.Cmp.Rules.{comparing};
+    ghost use Rattle.nd_time.specs.Listing.{time_cmp, time_total};
+
+    ghost cmp = { time_cmp };
+
+    ghost total = { time_total };
+
+    ghost matches_partial_cmp = { λ _ _. refl };
+
+    ghost matches_eq = { Prim.search (comparing, rules) };
+
+    fn cmp(&self, other: &Timestamp) -> Ordering {
+        let by_epoch = self.epoch.cmp(&other.epoch);
+        if by_epoch.is_ne() {
+            return by_epoch;
+        }
+        // Few loops are the common case. The comparison of two slices is slower.
+        match (self.counters(), other.counters()) {
+            ([], []) => Ordering::Equal,
+            ([own], [of_other]) => own.cmp(of_other),
+            (own, of_other) => own.cmp(of_other),
+        }
+    }
 }
 
 impl Timestamp {
