@@ -1,12 +1,13 @@
 //! Changes stored in maps that may grow large.
-ghost use Rattle.std.specs.Prelude.{◌≡◌, ◌≢◌, [], ◌↔◌, ◌<◌, ◌≤◌, ◌^◌, ◌*◌, ◌+ℤ◌, ℤ, pos, unsigned_abs, cond, length, OnOk, OnErr, IfOk, IsTrue, Err, Any};
+ghost use Rattle.std.specs.Prelude.{◌≡◌, ◌≢◌, [], ◌↔◌, ◌<◌, ◌≤◌, ◌^◌, ◌*◌, ◌+ℤ◌, ℤ, pos, unsigned_abs, cond, length, OnOk, OnErr, IfOk, IsTrue, Err, Some, Any};
 ghost use Rattle.std.specs.Map.Iter.{ShowsInOrder, deref_pair};
 ghost use Rattle.nd_time.specs.Limits.{max_count};
+ghost use Rattle.nd_map.specs.declared.tree.Edit.TheVariants.{Keep, Put, Remove};
 ghost use Rattle.nd_paths.specs.declared.point.Pointstamp.{Pointstamp as Point};
 ghost use Rattle.nd_delta.specs.Delta.{none, at, set, size, plus, minus, combined, part, has_point, points_of, IsTooLarge, IsWithin, IsPartOf, IsApart, entries as listed};
 
 use crate::{Delta, DeltaFault, passes_limit, sum_within};
-use nd_map::{GrowingMap, Iter};
+use nd_map::{Edit, GrowingMap, Iter};
 use nd_paths::Pointstamp;
 use std::alloc::{AllocError, Allocator, Global};
 use std::marker::Model;
@@ -31,6 +32,30 @@ impl<A: Allocator> Model for LargeDelta<A> {
     ghost view = { λ a. of_entries a.map };
 
     ghost invariant = { λ a. IsKept a.map };
+}
+
+// Returns the edit to the sum: `Remove` if it is 0, and `Keep` if it exceeds the limit.
+fn moved(held: i64, n: i64) -> Edit<i64>
+    ensures full { max_count < unsigned_abs (held +ℤ n) → result ≡ Keep }
+    ensures none { held +ℤ n ≡ pos 0 → result ≡ Remove }
+    ensures some { unsigned_abs (held +ℤ n) ≤ max_count → held +ℤ n ≢ pos 0
+        → result ≡ Put (held +ℤ n) }
+{
+    match sum_within(held, n) {
+        None => Edit::Keep,
+        Some(0) => Edit::Remove,
+        Some(sum) => Edit::Put(sum),
+    }
+}
+
+// Returns whether the edit keeps the integer that was there.
+fn is_kept(said: Option<Edit<i64>>) -> bool
+    ensures { IsTrue result ↔ (said ≡ Some Keep) }
+{
+    match said {
+        Some(Edit::Keep) => true,
+        Some(Edit::Put(_)) | Some(Edit::Remove) | None => false,
+    }
 }
 
 impl<A: Allocator> LargeDelta<A> {
@@ -185,8 +210,8 @@ impl<A: Allocator + Copy> LargeDelta<A> {
         Ok(())
     }
 
-    /// Adds `n` to the integer of a pointstamp. It takes no memory if the pointstamp has an integer or `n` is 0.
-    pub fn add(&mut self, point: &Pointstamp, n: i64) -> Result<(), DeltaFault>
+    // Does what `add` does, by two searches.
+    fn add_apart(&mut self, point: &Pointstamp, n: i64) -> Result<(), DeltaFault>
         ensures ok { OnOk result (self.new ≡ set self.old point.now (at self.old point.now +ℤ n)) }
         ensures err { OnErr result (self.new ≡ self.old) }
         ensures full { (result ≡ Err (DeltaFault.DeltaFull))
@@ -201,6 +226,29 @@ impl<A: Allocator + Copy> LargeDelta<A> {
         let Ok(()) = self.put(point, sum) else {
             return Err(DeltaFault::Memory);
         };
+        Ok(())
+    }
+
+    /// Adds `n` to the integer of a pointstamp. It takes no memory if the pointstamp has an integer or `n` is 0.
+    pub fn add(&mut self, point: &Pointstamp, n: i64) -> Result<(), DeltaFault>
+        ensures ok { OnOk result (self.new ≡ set self.old point.now (at self.old point.now +ℤ n)) }
+        ensures err { OnErr result (self.new ≡ self.old) }
+        ensures full { (result ≡ Err (DeltaFault.DeltaFull))
+            ↔ (max_count < unsigned_abs (at self.old point.now +ℤ n)) }
+        ensures no_growth { at self.old point.now ≢ pos 0 → result ≢ Err (DeltaFault.Memory) }
+        ensures nothing { n ≡ pos 0 → result ≢ Err (DeltaFault.Memory) }
+        ensures within { unsigned_abs (at self.old point.now) ≤ max_count }
+    {
+        // A new entry is `n` itself, if it can be one.
+        if n == 0 || passes_limit(n) {
+            return self.add_apart(point, n);
+        }
+        let Ok(said) = self.map.put_or_edit(point, n, |held| moved(held, n)) else {
+            return Err(DeltaFault::Memory);
+        };
+        if is_kept(said) {
+            return Err(DeltaFault::DeltaFull);
+        }
         Ok(())
     }
 
