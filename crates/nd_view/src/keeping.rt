@@ -167,7 +167,7 @@ pub fn shift<A: Allocator + Copy, B: Allocator>(
         if end > 0 && leads(paths, point, &row[end - 1].0) {
             let is_epochal = is_epochal(paths, point, &row[end - 1].0);
             let start = epoch_from(row, point.time.epoch());
-            let later = later_from(row, is_epochal, point.time.epoch());
+            let later = later_from(row, start, is_epochal, point.time.epoch());
             let mut k = start;
             while k < end {
                 let entry = &precursor_counts.row(r)[k];
