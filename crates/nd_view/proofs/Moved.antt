@@ -19,10 +19,6 @@ module _ (r : ℕ) (up : Bool) (first : ℕ) where
   moved_points zero old new h = ap (λ rows. points_by_row rows) h
   moved_points (suc n) old new h = h.2.points ∙ moved_points n old h.0 h.1
 
-  -- before the first entry
-  pub moved_nothing : (rows : List Row) → AreMovedUpTo r up first first rows rows
-  moved_nothing rows = (0, omega arith, λ _. rows)
-
   -- one entry more
   pub moved_next : (k : ℕ) (old mid new : List Row) → AreMovedUpTo r up first k old mid → IsMovedAt r up k mid new → AreMovedUpTo r up first (k + 1) old new
   moved_next k old mid new h step = (suc h.0, (let at = h.1 in omega (arith, at)), (mid, h.2, subst (λ i. IsMovedAt r up i mid new) h.1 step))

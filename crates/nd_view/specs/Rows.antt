@@ -29,7 +29,7 @@ abbrev pub IsPutIn : ℕ → ℕ → ℕ → List Row → List Row → Type 0
 IsPutIn r k n old new =
     (d : Pointstamp × ℕ) → joined new ≡ put point_cmp (get_or (row_of old r) k d).0 n (joined old)
 
--- the number of entry k of row r is moved by one; it neither was 0 nor is, and its point has no counters
+-- the number of entry k of row r, at least 2, is moved by one; its point has no counters
 pub record IsMovedAt (r : ℕ) (up : Bool) (k : ℕ) (old new : List Row) : Type 0 where
   pub entry : k < length (row_of old r)
   pub point : Pointstamp
