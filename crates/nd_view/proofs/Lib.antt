@@ -5,6 +5,7 @@ mod Fors
 mod Frontiers
 mod Left
 mod LinksLemmas
+mod Moved
 mod Moves
 mod Nearest
 mod Parts

@@ -112,17 +112,22 @@ pub fn epoch_from<V>(row: &[(Pointstamp, V)], epoch: u32) -> usize
     low
 }
 
-/// Returns the index of the first entry of a row whose epoch is greater than `epoch` if `is_epochal`, and
-/// otherwise the number of entries.
+/// Returns the index of the first entry of a row from `start` on whose epoch is greater than `epoch`. If there is
+/// none, or `is_epochal` is false, it returns the number of entries.
 #[inline(always)]
-pub fn later_from<V>(row: &[(Pointstamp, V)], is_epochal: bool, epoch: u32) -> usize
+pub fn later_from<V>(row: &[(Pointstamp, V)], start: usize, is_epochal: bool, epoch: u32) -> usize
     requires listed { IsListed point_cmp row.now }
     requires run { IsRun row.now 0 (length row.now) }
     ensures epochal { result < length row.now → IsTrue is_epochal }
     ensures later { AreNotSmaller row.now result (length row.now) (epoch + 1) }
 {
-    if !is_epochal || epoch == u32::MAX {
+    if !is_epochal {
         return row.len();
     }
-    epoch_from(row, epoch + 1)
+    for k in start..row.len() {
+        if row[k].0.time.epoch() > epoch {
+            return k;
+        }
+    }
+    row.len()
 }

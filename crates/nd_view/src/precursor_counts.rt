@@ -7,7 +7,7 @@ ghost use Rattle.nd_paths.specs.Point.{point_cmp};
 ghost use Rattle.nd_view.specs.Counting.{AreSameBut};
 ghost use Rattle.nd_view.specs.Kept.{IsFrontierBut, IsFrontierList};
 ghost use Rattle.nd_view.specs.Links.{IsRun};
-ghost use Rattle.nd_view.specs.Rows.{IsPutIn, joined, points_by_row, row_of};
+ghost use Rattle.nd_view.specs.Rows.{AreMovedUpTo, IsPutIn, joined, points_by_row, row_of};
 
 use crate::rows::Rows;
 use nd_paths::Pointstamp;
@@ -212,6 +212,20 @@ impl<A: Allocator + Copy> PrecursorCounts<A> {
             let point = &self.counts.row(r)[k].0;
             set_right(&self.counts, &mut self.frontier, point, was == 0, n == 0);
         }
+    }
+
+    /// Moves the numbers of the entries of a row by one, up or down, from `first` on, up to an entry that has
+    /// counters or whose number is 0 or 1. Returns the index of that entry, or the number of entries. It takes
+    /// no memory.
+    #[inline(always)]
+    pub fn move_from(&mut self, r: usize, first: usize, up: bool) -> usize
+        requires row { r < length self.old }
+        requires entry { first ≤ length (row_of self.old r) }
+        ensures moved { AreMovedUpTo r up first result self.old self.new }
+        ensures within { result ≤ length (row_of self.old r) }
+    {
+        // The list stays as it is, since no number was 0 or is.
+        self.counts.move_from(r, first, up)
     }
 
     /// Removes a pointstamp and its number, if it has one. It takes no memory.

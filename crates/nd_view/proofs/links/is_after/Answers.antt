@@ -1,14 +1,7 @@
-use Rattle.std.proofs.Common.{refl, ap, arith}
+use Rattle.std.proofs.Common.{refl}
+use Rattle.nd_view.proofs.LinksLemmas.{after}
 use Rattle.nd_view.proofs.links.is_after.Goals as goal
 
 pub returns-then-is_outside : goal.returns-then-is_outside
 returns-then-is_outside g c =
-    let s = c.args.first.now in
-    let t = c.args.second.now in
-    let h = c.requires.later c.if-is_later.true in (
-      λ _. (
-        h.epochal s t refl refl h.outside (c.if-is_outside.ensures.0 refl) (let less = h.later in omega (arith, less)),
-        λ same. (let less = h.later in omega (arith, less, ap (λ p. p.time.epoch) same)),
-      ),
-      λ _. refl,
-    )
+    (λ _. after c.args.paths.now c.args.first.now c.args.second.now (c.requires.later c.if-is_later.true) (c.if-is_outside.ensures.0 refl), λ _. refl)
