@@ -1,4 +1,4 @@
-use Rattle.std.proofs.Common.{Option, IfSome}
+use Rattle.std.proofs.Common.{IfSome}
 use Rattle.std.specs.Prelude.{◌↔◌, IsNone, option_copied, option_map}
 use Rattle.std.proofs.lemmas.Result.{IfOk-weaker}
 use Rattle.nd_steps.specs.declared.record.Record.{Record}

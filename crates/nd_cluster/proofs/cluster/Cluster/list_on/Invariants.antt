@@ -1,4 +1,3 @@
-use Rattle.std.proofs.Common.{List}
 use Rattle.nd_cluster.specs.Candidates.{Lists, candidates_of}
 use Rattle.nd_cluster.specs.declared.candidate.Candidates.{Candidates}
 use Rattle.nd_cluster.proofs.cluster.Cluster.list_on.Given as goal
