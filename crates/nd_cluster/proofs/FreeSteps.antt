@@ -1,5 +1,5 @@
 -- What holds of a feed, a take, a notice and a release that pass their tests.
-use Rattle.std.proofs.Common.{◌≡◌, ◌<◌, ◌≤◌, ℕ, ℤ, List, length, Option, Some, unwrap_or, inl, inr, ap, arith}
+use Rattle.std.proofs.Common.{◌≡◌, ◌<◌, ℕ, ℤ, List, length, Option, Some, unwrap_or, inl, inr, ap, arith}
 use Rattle.std.proofs.lemmas.Bool.{cases_lt}
 use Rattle.std.specs.FinMap as fin
 use Rattle.nd_time.specs.Limits.{max_counter}

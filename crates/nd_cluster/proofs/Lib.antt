@@ -5,8 +5,8 @@ pub mod Tallies
 pub mod Tests
 pub mod Releases
 pub mod FreeSteps
-pub mod ChoiceLemmas
 pub mod CandidatesLemmas
+pub mod ChoiceLemmas
 pub mod SinksLemmas
 pub mod PartsLemmas
 pub mod States

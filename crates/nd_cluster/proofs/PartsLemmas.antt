@@ -1,5 +1,5 @@
 -- If the entries of a map fit a graph, so does the map; and parts that fit make a state.
-use Rattle.std.proofs.Common.{◌≡◌, ◌≢◌, ◌<◌, ◌≤◌, ◌+◌, inl, inr, ℕ, zero, suc, ℤ, pos, List, [], ◌∷◌, map, length, get_or, Option, Some, None, refl, sym, ap, subst, ◌∙◌, arith, Ordering}
+use Rattle.std.proofs.Common.{◌≡◌, ◌≢◌, ◌<◌, ◌≤◌, ◌+◌, ◌⊎◌, inl, inr, ℕ, zero, suc, ℤ, pos, List, [], ◌∷◌, map, length, get_or, Option, Some, None, refl, sym, ap, subst, ◌∙◌, arith, Ordering}
 use Rattle.std.specs.Prelude.{All}
 use Rattle.std.specs.Cmp.{IsTotalOrder}
 use Rattle.std.proofs.lemmas.Cmp.{nat_cmp_total}
@@ -25,7 +25,6 @@ use Rattle.nd_mesh.specs.Mesh.{IsMesh, queue}
 use Rattle.nd_protocol.specs.Fitting.{DeltaFits, DeltaIsWithin, IsAtVertex, IsAtLocation, ProcessorFits, ProcessorIsWithin, IsOrdered, IsState}
 use Rattle.nd_steps.specs.Seen.{seen}
 use Rattle.nd_cluster.specs.Parts.{IsRecordKey, IsItem, IsSinkKey, ItemsFit, RowFits, RowIsWithin}
-use Rattle.nd_cluster.proofs.ChoiceLemmas.{split}
 use Rattle.std.proofs.lemmas.Bool.{cases_lt}
 
 -- ---- the keys of a map
@@ -117,6 +116,9 @@ module _ (g : Dataflow) (q : ProcessorState) where
   }
 
 -- ---- lists of lists
+
+pub split : (q r : ℕ) → q < r + 1 → (q < r) ⊎ (q ≡ r)
+split q r lt = grind arith
 
 -- one more element has the property
 pub all_more : {X : Type 0} (P : X → Type 0) (xs : List X) (i : ℕ) (x : X) → i < length xs → x ≡ get_or xs i x → P x → ((k : ℕ) (d : X) → k < i → P (get_or xs k d)) → (k : ℕ) (d : X) → k < i + 1 → P (get_or xs k d)

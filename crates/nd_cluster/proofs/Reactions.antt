@@ -1,5 +1,5 @@
 -- The tests of a take and of a notice show that their vertices may act; and what may still be refused.
-use Rattle.std.proofs.Common.{inl, inr, ◌≡◌, ℕ, zero, suc, ◌-◌, ◌<◌, ◌≤◌, Bool, true, false, cond, not, get_or, ◌&&◌, ◌||◌, ◌==◌, List, [], ◌∷◌, ◌++◌, map, length, Option, Some, None, refl, sym, ap, subst, ◌∙◌, arith, lt_of_not-le}
+use Rattle.std.proofs.Common.{inl, inr, ◌≡◌, ℕ, zero, suc, ◌-◌, ◌<◌, ◌≤◌, Bool, true, false, cond, not, ◌&&◌, ◌||◌, ◌==◌, List, [], ◌∷◌, ◌++◌, map, length, Option, Some, None, refl, sym, ap, subst, ◌∙◌, arith, lt_of_not-le}
 use Rattle.std.proofs.lemmas.Bool.Decides.{nat_tests}
 use Rattle.std.specs.Prelude.{nat_lt, slice_get}
 use Rattle.std.specs.Option.{option_map_or}
@@ -19,13 +19,13 @@ use Rattle.nd_graph.specs.Graph.{Dataflow, action_of, depth_past_vertex, locatio
 use Rattle.nd_graph.specs.Checked.{has_bad_port, is_input, is_misplaced, is_too_deep, vertex_depth, misses_depth, has_depth_mismatch, leads_too_deep, is_too_large, fault_of, IsFaultless}
 use Rattle.nd_paths.specs.declared.point.Pointstamp.{Pointstamp}
 use Rattle.nd_delta.specs.Least.{IsLeast}
-use Rattle.nd_delta.specs.Delta.{DeltaValue, none}
+use Rattle.nd_delta.specs.Delta.{DeltaValue}
 use Rattle.nd_view.specs.View.{IsPrecursor}
 use Rattle.nd_vertex.specs.Items.{Items}
 use Rattle.nd_vertex.specs.Table.{Outcome, on_record}
 use Rattle.nd_vertex.specs.Effects.{IsCounterFull, IsInRange, MayActAt}
 use Rattle.std.specs.FinMap as fin
-use Rattle.nd_processor.specs.State.{ProcessorState, idle, items_at}
+use Rattle.nd_processor.specs.State.{idle, items_at}
 use Rattle.nd_processor.specs.declared.key.ValueAt.{ValueAt}
 use Rattle.nd_protocol.specs.State.{ClusterState, processor, view}
 use Rattle.nd_protocol.specs.Steps.{target_of}

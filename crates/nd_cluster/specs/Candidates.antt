@@ -1,5 +1,5 @@
 -- The steps that a run could try, each with the answer of a plan (this project's own rule).
-use Rattle.std.specs.Prelude.{◌≡◌, ◌↔◌, ◌<◌, ◌+◌, ◌-◌, ◌%◌, ℕ, ℤ, Bool, true, cond, nat_eq, List, [], ◌∷◌, ◌++◌, length, map, take, Option, Some, None, IsTrue, All}
+use Rattle.std.specs.Prelude.{◌≡◌, ◌↔◌, ◌<◌, ◌+◌, ◌-◌, ℕ, ℤ, Bool, true, cond, nat_eq, List, [], ◌∷◌, ◌++◌, length, map, take, Option, Some, None, IsTrue, All, Contains}
 use Rattle.std.specs.List.{flat_map, list_any, range_with_len}
 use Rattle.std.specs.FinMap as fin
 use Rattle.nd_time.specs.Limits.{max_told}
@@ -11,12 +11,11 @@ use Rattle.nd_processor.specs.declared.key.ValueAt.{ValueAt}
 use Rattle.nd_protocol.specs.State.{ClusterState, processor, queue}
 use Rattle.nd_protocol.specs.Enabled.{IsEnabled, IsRefused}
 use Rattle.nd_protocol.specs.declared.step.Step.{Step}
-use Rattle.nd_protocol.specs.declared.step.Step.TheVariants.{Broadcast, Receive}
+use Rattle.nd_protocol.specs.declared.step.Step.TheVariants.{Feed, Take, Notice, Release, Broadcast, Receive}
+use Rattle.nd_protocol.specs.declared.part.Part.TheVariants.{Points}
 use Rattle.nd_protocol.specs.declared.part.Part.TheVariants.{All as Whole}
 use Rattle.nd_protocol.specs.declared.refusal.Refusal.{Refusal}
-use Rattle.nd_steps.specs.declared.record.Record.{Record}
 use Rattle.nd_cluster.specs.Drafted.{take_of, notice_of}
-use Rattle.nd_cluster.specs.Records.{IsPlanned}
 use Rattle.nd_cluster.specs.declared.candidate.Candidate.{Candidate}
 use Rattle.nd_cluster.specs.declared.candidate.Candidates.{Candidates}
 
@@ -57,13 +56,7 @@ candidates_of s p = receives s p ++ (takes s p ++ (notices s p ++ broadcasts s p
 
 -- ---- the candidates of a cluster
 
--- the candidates of all processors, by processor
-abbrev pub candidates : {A : Type 0} → ClusterState → List (Step A)
-candidates s = flat_map (candidates_of s) (range_with_len 0 (length s.processors))
-
--- ---- the candidates of some processors
-
--- whether a run goes through processor p: `MayRun` as a test
+-- whether a run goes through processor p: through every one, or through those that are listed
 abbrev pub may_run : Option (List ℕ) → ℕ → Bool
 may_run None p = true
 may_run (Some listed) p = list_any (λ q. nat_eq q p) listed
@@ -72,29 +65,47 @@ may_run (Some listed) p = list_any (λ q. nat_eq q p) listed
 abbrev pub candidates_if : {A : Type 0} → ClusterState → Option (List ℕ) → ℕ → List (Step A)
 candidates_if s only p = cond (may_run only p) (candidates_of s p) []
 
--- the candidates of all processors, by processor, without the processors that a run skips
+-- the candidates of these processors, one processor after the other, without the processors that a run skips
+abbrev pub candidates_on : {A : Type 0} → ClusterState → Option (List ℕ) → List ℕ → List (Step A)
+candidates_on s only ps = flat_map (candidates_if s only) ps
+
+-- the candidates of all processors that a run goes through, by processor
 abbrev pub candidates_among : {A : Type 0} → ClusterState → Option (List ℕ) → List (Step A)
-candidates_among s only = flat_map (candidates_if s only) (range_with_len 0 (length s.processors))
+candidates_among s only = candidates_on s only (range_with_len 0 (length s.processors))
 
--- the candidates of the processor that comes i processors after the turn's
-abbrev pub candidates_after : {A : Type 0} → ClusterState → ℕ → Option (List ℕ) → ℕ → List (Step A)
-candidates_after s turn only i = candidates_if s only ((turn % length s.processors + i) % length s.processors)
+-- the candidates of all processors, by processor
+abbrev pub candidates : {A : Type 0} → ClusterState → List (Step A)
+candidates s = candidates_among s None
 
--- the candidates by processor, beginning with the turn's processor
-abbrev pub candidates_from : {A : Type 0} → ClusterState → ℕ → Option (List ℕ) → List (Step A)
-candidates_from s turn only = flat_map (candidates_after s turn only) (range_with_len 0 (length s.processors))
+-- ---- they are complete
 
--- none of these steps is enabled
-abbrev pub AreRefused : {A : Type 0} → ClusterState → List (Step A) → Type 0
-AreRefused s xs = All (λ x. IsEnabled s x → ⊥) xs
+-- a step that a run may choose: feeds and releases are left to the users, and a broadcast sends all
+abbrev pub IsCandidate : {A : Type 0} → Step A → Type 0
+IsCandidate (Feed p vertex values _) = ⊥
+IsCandidate (Take p edge t value) = Unit {0}
+IsCandidate (Notice p vertex t) = Unit {0}
+IsCandidate (Release p vertex times) = ⊥
+IsCandidate (Broadcast p Whole) = Unit {0}
+IsCandidate (Broadcast p (Points _)) = ⊥
+IsCandidate (Receive from to) = Unit {0}
 
--- x is enabled, and each step before it in the list is refused
-pub record IsFirstEnabled {A : Type 0} (s : ClusterState) (xs : List (Step A)) (x : Step A) : Type 0 where
-  pub before : List (Step A)
-  pub after : List (Step A)
-  pub place : xs ≡ before ++ x ∷ after
-  pub refused : AreRefused s before
-  pub enabled : IsEnabled s x
+-- the processor that executes a step
+abbrev pub performer : {A : Type 0} → Step A → ℕ
+performer (Feed p vertex values _) = p
+performer (Take p edge t value) = p
+performer (Notice p vertex t) = p
+performer (Release p vertex times) = p
+performer (Broadcast p part) = p
+performer (Receive from to) = to
+
+-- a candidate of a processor that a run goes through
+abbrev pub IsAmong : {A : Type 0} → Option (List ℕ) → Step A → Type 0
+IsAmong only x = IsCandidate x × IsTrue (may_run only (performer x))
+
+-- all of these steps are candidates of processors that a run goes through, and each such candidate that is enabled is one of them
+pub record AreComplete {A : Type 0} (s : ClusterState) (only : Option (List ℕ)) (xs : List (Step A)) : Type 0 where
+  pub kinds : All (IsAmong only) xs
+  pub covers : (x : Step A) → IsAmong only x → IsEnabled s x → Contains xs x
 
 -- ---- one by one
 
@@ -113,11 +124,6 @@ left_of s p from records requests sends =
 abbrev pub IsNextSender : (A : Type 0) → ClusterState → ℕ → ℕ → Option ℕ → Type 0
 IsNextSender A s p from None = receives_after {A = A} s p from ≡ []
 IsNextSender A s p from (Some k) = (k < length s.processors) × (receives_after {A = A} s p from ≡ Receive k p ∷ receives_after s p (k + 1))
-
--- the record of the first enabled step of a list, or none if all are refused
-abbrev pub FindsFirst : {A : Type 0} → ClusterState → List (Step A) → Option (Record A) → Type 0
-FindsFirst s xs None = AreRefused s xs
-FindsFirst s xs (Some r) = IsFirstEnabled s xs r.step × IsPlanned r s
 
 -- ---- the list of candidates
 

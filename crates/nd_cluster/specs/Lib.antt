@@ -1,8 +1,8 @@
 pub mod Records
 pub mod Drafted
 pub mod Starting
-pub mod Choice
 pub mod Candidates
+pub mod Choice
 pub mod Sinks
 pub mod Parts
 pub mod Saved

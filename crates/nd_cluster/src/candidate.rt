@@ -1,10 +1,7 @@
 //! The steps that a run could try, each with the answer of a plan.
-ghost use Rattle.std.specs.Prelude.{◌≡◌, ◌<◌, ◌++◌, ◌∷◌, [], All, Contains, IfOk, OnOk, length};
+ghost use Rattle.std.specs.Prelude.{◌≡◌, ◌<◌, ◌++◌, ◌∷◌, [], IfOk, None, OnOk, length};
 ghost use Rattle.nd_protocol.specs.State.{ClusterState};
-ghost use Rattle.nd_protocol.specs.Enabled.{IsEnabled};
-ghost use Rattle.nd_protocol.specs.declared.step.Step.{Step as AnyStep};
-ghost use Rattle.nd_cluster.specs.Choice.{IsCandidate};
-ghost use Rattle.nd_cluster.specs.Candidates.{AreListed, IsAnswer, IsAnswered, Lists, candidates, candidates_of};
+ghost use Rattle.nd_cluster.specs.Candidates.{AreComplete, AreListed, IsAnswer, IsAnswered, Lists, candidates, candidates_of};
 
 use crate::{Cluster, NoMemory, Refusal, Step};
 use std::alloc::{AllocError, Allocator, Global};
@@ -143,9 +140,7 @@ impl<A: Allocator + Copy> Cluster<A> {
     /// more. Changes nothing.
     pub fn candidates(&self) -> Result<Candidates<A>, NoMemory>
         ensures listed { IfOk result (AreListed self.now (candidates self.now)) }
-        ensures kinds { All IsCandidate (candidates {A = A} self.now) }
-        ensures covers { (x : AnyStep A) → IsCandidate x → IsEnabled self.now x
-            → Contains (candidates self.now) x }
+        ensures complete { AreComplete {A = A} self.now None (candidates self.now) }
     {
         let mut listed = Candidates::new(self.alloc);
         for p in 0..self.processor_count() {

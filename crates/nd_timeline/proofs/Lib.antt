@@ -1,4 +1,3 @@
-pub mod ChosenLemmas
 pub mod CopiesLemmas
 pub mod MovesLemmas
 pub mod KeptSteps

@@ -1,7 +1,8 @@
 -- A machine, a command and its reply determine the machine after the command.
-use Rattle.std.proofs.Common.{◌≡◌, ℕ, zero, suc, List, Option, sym, ap, subst, ◌∙◌, arith}
+use Rattle.std.proofs.Common.{◌≡◌, ℕ, zero, suc, List, Option, Some, sym, ap, subst, ◌∙◌, arith}
 use Rattle.nd_protocol.specs.declared.step.Step.{Step}
 use Rattle.nd_protocol.specs.declared.refusal.Refusal.TheVariants.{NoProcessor}
+use Rattle.nd_cluster.specs.Choice.{candidates_from}
 use Rattle.nd_breaks.specs.Breaks.{BreakMap}
 use Rattle.nd_breaks.specs.Conditions.{ConditionValue}
 use Rattle.nd_timeline.specs.Timeline.{TimelineValue, cluster_of, extended}
@@ -13,7 +14,7 @@ use Rattle.nd_timeline.specs.declared.reply.Stop.{Stop}
 use Rattle.nd_timeline.specs.declared.reply.Stop.TheVariants as stop
 use Rattle.nd_timeline.specs.declared.reply.Reply.{Reply}
 use Rattle.nd_timeline.specs.declared.reply.Reply.TheVariants as reply
-use Rattle.nd_timeline.proofs.ChosenLemmas.{one_choice}
+use Rattle.nd_timeline.proofs.RunLemmas.{one_choice}
 
 module _ {A : Type 0} where
   -- ---- the timeline, without runs
@@ -48,7 +49,8 @@ module _ {A : Type 0} where
   one_step : (only : Option (List ℕ)) (m l new other : TimelineValue A) (x y : Step A) → m ≡ l → Goes only m x new → Goes only l y other → new ≡ other
   one_step only m l new other x y same g h =
       let k : Goes only m y other = subst (λ (m : TimelineValue A). Goes only m y other) (sym same) h in
-      g.made ∙ ap (extended m) (one_choice (cluster_of m) m.cursor only x y g.chosen k.chosen) ∙ sym k.made
+      let chosen : x ≡ y = cc (one_choice (cluster_of m) (candidates_from (cluster_of m) m.cursor only) (Some x) (Some y) g.chosen k.chosen) in
+      g.made ∙ ap (extended m) chosen ∙ sym k.made
 
   one_run : (only : Option (List ℕ)) (breaks : BreakMap) (n : ℕ) (m new other : TimelineValue A) → HasRun only breaks n m new → HasRun only breaks n m other → new ≡ other
   unfolding HasRun

@@ -1,9 +1,9 @@
 -- What every move of the debugger machine preserves, and what its replies determine, as statements. A is the
 -- allocator of the steps' values.
-use Rattle.std.specs.Prelude.{◌≡◌, ℕ, List, Option}
+use Rattle.std.specs.Prelude.{◌≡◌, List, Option}
 use Rattle.nd_protocol.specs.State.{ClusterState}
 use Rattle.nd_protocol.specs.declared.step.Step.{Step}
-use Rattle.nd_cluster.specs.Choice.{IsChosen}
+use Rattle.nd_cluster.specs.Choice.{Chooses}
 use Rattle.nd_timeline.specs.Timeline.{IsTimeline}
 use Rattle.nd_timeline.specs.Moves.{MachineValue, Moves}
 use Rattle.nd_timeline.specs.declared.command.Command.{Command}
@@ -18,10 +18,10 @@ abbrev pub MovesKeepTimelines : Type 0 → Type 0
 MovesKeepTimelines A =
     (m new : MachineValue A) (command : Command A) (reply : Reply) → Moves m command reply new → IsTimeline m.timeline → IsTimeline new.timeline
 
--- at a turn, at most one step of a cluster can be chosen, among all processors or among some
+-- among the same candidates of the same state, there is only one choice
 abbrev pub ChoicesAreUnique : Type 0 → Type 0
 ChoicesAreUnique A =
-    (s : ClusterState) (turn : ℕ) (only : Option (List ℕ)) (x other : Step A) → IsChosen s turn only x → IsChosen s turn only other → x ≡ other
+    (s : ClusterState) (xs : List (Step A)) (choice other : Option (Step A)) → Chooses s xs choice → Chooses s xs other → choice ≡ other
 
 -- a machine, a command and its reply determine the machine after the command
 abbrev pub RepliesTellMachines : Type 0 → Type 0

@@ -11,8 +11,8 @@ pub fn moves_keep_timelines<A: Allocator>()
     ensures timeline { MovesKeepTimelines A }
 {}
 
-/// Shows that at a turn at most one step of a cluster can be chosen, and that a command and its reply
-/// determine the machine after them.
+/// Shows that the candidates and the state determine the choice among them, and that a command and its
+/// reply determine the machine after them.
 pub fn replies_tell_machines<A: Allocator>()
     ensures choice { ChoicesAreUnique A }
     ensures machine { RepliesTellMachines A }

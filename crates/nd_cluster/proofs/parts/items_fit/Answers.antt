@@ -1,7 +1,7 @@
 use Rattle.std.proofs.Common.{◌<◌, ◌≤◌, length, refl, inl, inr, sym, subst, arith}
 use Rattle.nd_processor.specs.State.{items_at}
 use Rattle.nd_cluster.specs.Parts.{ItemsFit}
-use Rattle.nd_cluster.proofs.ChoiceLemmas.{split}
+use Rattle.nd_cluster.proofs.PartsLemmas.{split}
 use Rattle.nd_cluster.proofs.parts.items_fit.Goals as goal
 
 pub loop-vertex-preserved : goal.loop-vertex-preserved

@@ -1,4 +1,4 @@
-use Rattle.std.proofs.Common.{◌≡◌, refl, sym, subst, arith}
+use Rattle.std.proofs.Common.{refl, sym, subst, arith}
 use Rattle.nd_view.specs.Kept.{Kept}
 use Rattle.nd_protocol.specs.Fitting.{DeltaFits, DeltaIsWithin}
 use Rattle.nd_cluster.proofs.PartsLemmas.{all_more}

@@ -1,4 +1,4 @@
-use Rattle.nd_timeline.proofs.ChosenLemmas.{one_choice}
+use Rattle.nd_timeline.proofs.RunLemmas.{one_choice}
 use Rattle.nd_timeline.proofs.RepliesLemmas.{replies_tell}
 use Rattle.nd_timeline.proofs.laws.replies_tell_machines.Goals as goal
 

@@ -1,9 +1,8 @@
 use Rattle.std.specs.Option.{IsNone, IfSome}
-use Rattle.std.proofs.Common.{◌↔◌, subst, ap}
+use Rattle.std.proofs.Common.{◌↔◌, subst}
 use Rattle.nd_graph.specs.Graph.{Dataflow}
 use Rattle.nd_delta.specs.Least.{IsLeast}
 use Rattle.nd_view.specs.View.{IsBlocker, IsPassed}
-use Rattle.nd_protocol.specs.State.{ClusterState}
 use Rattle.nd_cluster.proofs.cluster.Cluster.blocker.Goals as goal
 
 pub returns-clause-passed : goal.returns-clause-passed

@@ -1,4 +1,4 @@
-use Rattle.std.proofs.Common.{refl, IsTrue, ◌↔◌, [], ◌≡◌, subst}
+use Rattle.std.proofs.Common.{IsTrue, ◌↔◌, ◌≡◌, subst}
 use Rattle.nd_protocol.specs.State.{ClusterState}
 use Rattle.nd_why.specs.Why.{state_of, IsFinishedBefore}
 use Rattle.nd_cluster.proofs.States.{of_parts}

@@ -1,11 +1,6 @@
-use Rattle.std.proofs.Common.{◌≡◌, ◌++◌, List}
-use Rattle.nd_protocol.specs.declared.step.Step.{Step}
 use Rattle.nd_cluster.specs.Candidates.{Lists, candidates_of}
+use Rattle.nd_cluster.specs.declared.candidate.Candidates.{Candidates}
 use Rattle.nd_cluster.proofs.cluster.Cluster.list_on.Given as goal
 
 abbrev pub invariant-loop-step : goal.invariant-loop-step
-invariant-loop-step g l = record {
-  done : List (Step g.row.A.Denot);
-  place : candidates_of l.self l.p ≡ done ++ l.step-iterator;
-  lists : Lists l.self done l.initial.listed l.listed;
-}
+invariant-loop-step g l = (new : Candidates g.row.A.Denot) → Lists l.self l.step-iterator l.listed new → Lists l.self (candidates_of l.self l.p) l.initial.listed new

@@ -1,6 +1,5 @@
-use Rattle.std.proofs.Common.{◌≡◌, ◌<◌, length, vec_len, refl, sym, ap, subst, rules}
+use Rattle.std.proofs.Common.{◌<◌, length, refl, sym, subst}
 use Rattle.nd_processor.specs.State.{ProcessorState}
-use Rattle.nd_protocol.specs.State.{ClusterState}
 use Rattle.nd_graph.specs.Graph.{Dataflow}
 use Rattle.nd_view.specs.Kept.{IsFor}
 use Rattle.nd_cluster.proofs.Reactions.{requested_there, notice_here, notice_blocked, notice_free}

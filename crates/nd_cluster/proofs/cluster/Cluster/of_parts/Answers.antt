@@ -1,4 +1,4 @@
-use Rattle.std.proofs.Common.{◌≡◌, refl, sym, ap, subst, ◌∙◌, true≢false}
+use Rattle.std.proofs.Common.{refl, sym, ap, subst, ◌∙◌, true≢false}
 use Rattle.std.specs.Prelude.{All}
 use Rattle.nd_graph.specs.Graph.{Dataflow}
 use Rattle.nd_view.specs.Kept.{IsFor}

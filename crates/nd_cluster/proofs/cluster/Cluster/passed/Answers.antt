@@ -1,7 +1,6 @@
-use Rattle.std.proofs.Common.{subst, ap}
+use Rattle.std.proofs.Common.{subst}
 use Rattle.nd_graph.specs.Graph.{Dataflow}
 use Rattle.nd_view.specs.View.{IsPassed}
-use Rattle.nd_protocol.specs.State.{ClusterState}
 use Rattle.nd_cluster.proofs.cluster.Cluster.passed.Goals as goal
 
 pub returns-clause-finished : goal.returns-clause-finished

@@ -3,7 +3,6 @@ use Rattle.nd_time.specs.Limits.{max_processors}
 use Rattle.nd_protocol.specs.Start.{start}
 use Rattle.nd_protocol.specs.Fitting.{IsState, IsOrdered}
 use Rattle.nd_protocol.specs.Invariant.{KeepsProtocol}
-use Rattle.nd_steps.specs.Seen.{seen}
 use Rattle.nd_cluster.specs.Starting.{IsProcessorCount, IsStartFault}
 use Rattle.nd_cluster.proofs.Starts.{seen_start, ordered, path_fault}
 use Rattle.nd_cluster.proofs.cluster.Cluster.start.Goals as goal

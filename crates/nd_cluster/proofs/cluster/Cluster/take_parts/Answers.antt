@@ -1,4 +1,4 @@
-use Rattle.std.proofs.Common.{refl, sym, arith}
+use Rattle.std.proofs.Common.{arith}
 use Rattle.nd_cluster.proofs.FreeSteps.{takes_there}
 use Rattle.nd_cluster.proofs.cluster.Cluster.take_parts.Goals as goal
 
