@@ -174,8 +174,8 @@ module _ {A : Type 0} (s : ClusterState) where
     complete ps all = record {
       kinds = in_each (candidates_if s only) (IsAmong only) (λ p. all_among p only) ps;
       covers = λ x is e.
-        among_each (candidates_if s only) (performer x) ps x (all (performer x) (performer_there x e))
-        (subst (λ b. Contains (cond b (candidates_of s (performer x)) []) x) (sym is.1) (covers_own x is.0 e));
+          among_each (candidates_if s only) (performer x) ps x (all (performer x) (performer_there x e))
+          (subst (λ b. Contains (cond b (candidates_of s (performer x)) []) x) (sym is.1) (covers_own x is.0 e));
     }
 
     pub complete_among : AreComplete {A = A} s only (candidates_among s only)

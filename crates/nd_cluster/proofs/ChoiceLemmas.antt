@@ -40,7 +40,7 @@ module _ {A : Type 0} (s : ClusterState) where
   pub none_exactly : (only : Option (List ℕ)) (xs ys : List (Step A)) (found : Option (Record A)) → AreComplete s only xs → AreComplete s only ys → Finds s xs found → IsNone found ↔ AreRefused s ys
   none_exactly only xs ys None here there h = (
     λ _. All-weaker (IsAmong only) (λ y. IsEnabled s y → ⊥) (λ y is e. All-contains (λ x. IsEnabled s x → ⊥) xs y (none_refused xs h.0) (here.covers y is e) e) ys there.kinds,
-    λ _. refl
+    λ _. refl,
   )
   none_exactly only xs ys (Some r) here there h =
       let found : Contains xs r.step × IsEnabled s r.step = some_enabled xs r.step h.0 in

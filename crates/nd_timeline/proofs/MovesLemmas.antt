@@ -17,6 +17,7 @@ use Rattle.nd_timeline.specs.declared.reply.Stop.{Stop}
 use Rattle.nd_timeline.specs.declared.reply.Stop.TheVariants as stop
 use Rattle.nd_timeline.specs.declared.reply.Reply.{Reply}
 use Rattle.nd_timeline.specs.declared.reply.Reply.TheVariants as reply
+use Rattle.nd_timeline.proofs.RunLemmas.{goes_enabled}
 
 -- ---- steps that are enabled in the state to which those before them lead
 
@@ -150,14 +151,14 @@ module _ {A : Type 0} where
   has_run_is only breaks zero m new h room was = same_is m new h was
   has_run_is only breaks (suc n) m new h room was =
       let before : h.mid.cursor ≡ m.cursor + n = has_run_cursor only breaks n m h.mid h.earlier in
-      extended_is h.mid new h.step h.last.made (omega (arith, before, room)) h.last.chosen.enabled (has_run_is only breaks n m h.mid h.earlier (omega (arith, room)) was)
+      extended_is h.mid new h.step h.last.made (omega (arith, before, room)) (goes_enabled only h.mid new h.step h.last) (has_run_is only breaks n m h.mid h.earlier (omega (arith, room)) was)
 
   stops_is : (only : Option (List ℕ)) (breaks : BreakMap) (limit : ℕ) (m : TimelineValue A) (ran : ℕ) (why : Stop) (new : TimelineValue A) → StopsAt only breaks limit m ran why new → m.cursor + limit ≤ max_kept → IsTimeline m → IsTimeline new
   stops_is only breaks limit m ran stop.Limit new h room was = has_run_is only breaks ran m new h.1 (omega (arith, h.0, room)) was
   stops_is only breaks limit m ran stop.Idle new h room was = has_run_is only breaks ran m new h.1 (omega (arith, h.0, room)) was
   stops_is only breaks limit m ran (stop.Break id) new h room was =
       let at : h.mid.cursor ≡ m.cursor + h.before = has_run_cursor only breaks h.before m h.mid h.earlier in
-      extended_is h.mid new h.step h.last.made (omega (arith, at, h.within, room)) h.last.chosen.enabled (has_run_is only breaks h.before m h.mid h.earlier (omega (arith, h.within, room)) was)
+      extended_is h.mid new h.step h.last.made (omega (arith, at, h.within, room)) (goes_enabled only h.mid new h.step h.last) (has_run_is only breaks h.before m h.mid h.earlier (omega (arith, h.within, room)) was)
 
   run_is : (m new : TimelineValue A) (limit : ℕ) (only : Option (List ℕ)) (breaks : BreakMap) (r : Reply) → RunMoves m limit only breaks r new → IsTimeline m → IsTimeline new
   run_is m new limit only breaks (reply.Refused fault.TimelineFull) h was = same_is m new h.1 was

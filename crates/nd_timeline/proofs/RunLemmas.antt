@@ -1,11 +1,12 @@
 -- A run, step by step.
 use Rattle.std.proofs.Common.{◌≡◌, inl, inr, ℕ, ◌+◌, List, [], ◌∷◌, Option, Some, refl, sym, subst, ◌∙◌, add-one, arith}
 use Rattle.nd_protocol.specs.State.{ClusterState}
+use Rattle.nd_protocol.specs.Enabled.{IsEnabled}
 use Rattle.nd_protocol.specs.declared.step.Step.{Step}
 use Rattle.nd_cluster.specs.Choice.{Chooses, candidates_from}
 use Rattle.nd_breaks.specs.Breaks.{BreakMap, NoHit}
 use Rattle.nd_timeline.specs.Timeline.{TimelineValue, cluster_of, extended}
-use Rattle.nd_timeline.specs.Moves.{HasRun, Goes, ChoosesNext}
+use Rattle.nd_timeline.specs.Moves.{HasRun, Goes}
 
 pub one_choice : {A : Type 0} (s : ClusterState) (xs : List (Step A)) (choice other : Option (Step A)) → Chooses s xs choice → Chooses s xs other → choice ≡ other
 one_choice s [] choice other h k = h ∙ sym k
@@ -13,6 +14,14 @@ one_choice s (x ∷ xs) choice other (inl h) (inl k) = h.1 ∙ sym k.1
 one_choice s (x ∷ xs) choice other (inl h) (inr k) = absurd (k.0 h.0)
 one_choice s (x ∷ xs) choice other (inr h) (inl k) = absurd (h.0 k.0)
 one_choice s (x ∷ xs) choice other (inr h) (inr k) = one_choice s xs choice other h.1 k.1
+
+chosen_enabled : {A : Type 0} (s : ClusterState) (xs : List (Step A)) (x : Step A) → Chooses s xs (Some x) → IsEnabled s x
+chosen_enabled s [] x h = absurd (cc (h))
+chosen_enabled s (y ∷ xs) x (inl h) = let same : y ≡ x = cc (h.1) in subst (IsEnabled s) same h.0
+chosen_enabled s (y ∷ xs) x (inr h) = chosen_enabled s xs x h.1
+
+pub goes_enabled : {A : Type 0} (only : Option (List ℕ)) (m new : TimelineValue A) (x : Step A) → Goes only m x new → IsEnabled (cluster_of m) x
+goes_enabled only m new x h = chosen_enabled (cluster_of m) (candidates_from (cluster_of m) m.cursor only) x h.chosen
 
 module _ {A : Type 0} (only : Option (List ℕ)) (breaks : BreakMap) where
   pub not_run : (m : TimelineValue A) → HasRun only breaks 0 m m
@@ -24,10 +33,11 @@ module _ {A : Type 0} (only : Option (List ℕ)) (breaks : BreakMap) where
   unfolding HasRun
   run_on n m mid new x earlier last no_hit = subst (λ k. HasRun only breaks k m new) (sym (add-one n)) (record { mid = mid; step = x; earlier = earlier; last = last; no_hit = no_hit })
 
-pub chooses_next : {A : Type 0} (only : Option (List ℕ)) (m : TimelineValue A) (at : ℕ) (k : ClusterState) (choice : Option (Step A))
-    → at ≡ m.cursor → k ≡ cluster_of m → Chooses k (candidates_from k at only) choice → ChoosesNext only m choice
-chooses_next only m at k choice is cluster chosen =
-    subst (λ at. Chooses (cluster_of m) (candidates_from (cluster_of m) at only) choice) is (subst (λ k. Chooses k (candidates_from k at only) choice) cluster chosen)
+  pub goes : (s new : TimelineValue A) (at : ℕ) (k : ClusterState) (x : Step A) → at ≡ s.cursor → k ≡ cluster_of s → Chooses k (candidates_from k at only) (Some x) → new ≡ extended s x → Goes only s x new
+  goes s new at k x is cluster chosen made = record {
+    chosen = subst (λ at. Chooses (cluster_of s) (candidates_from (cluster_of s) at only) (Some x)) is (subst (λ k. Chooses k (candidates_from k at only) (Some x)) cluster chosen);
+    made = made;
+  }
 
 pub next_cursor : (a b n : ℕ) → a ≡ b + n → a + 1 ≡ b + (n + 1)
 next_cursor a b n is = omega (arith, is)

@@ -6,7 +6,8 @@ use Rattle.nd_time.specs.Limits.{max_kept}
 use Rattle.nd_protocol.specs.Enabled.{IsEnabled, IsRefused, MayWantMemory}
 use Rattle.nd_protocol.specs.declared.refusal.Refusal.TheVariants.{NoProcessor}
 use Rattle.nd_protocol.specs.declared.step.Step.{Step}
-use Rattle.nd_cluster.specs.Choice.{Chooses, candidates_from}
+use Rattle.nd_cluster.specs.Candidates.{candidates_among}
+use Rattle.nd_cluster.specs.Choice.{Chooses, AreRefused, candidates_from}
 use Rattle.nd_breaks.specs.Breaks.{BreakMap, NoHit, FirstHit, IsLeastFree, IsFull}
 use Rattle.nd_breaks.specs.Conditions.{ConditionValue}
 use Rattle.nd_timeline.specs.Timeline.{TimelineValue, cluster_of, extended, moved_to}
@@ -80,14 +81,9 @@ abbrev pub ListsMissing : {A : Type 0} → TimelineValue A → Option (List ℕ)
 ListsMissing m None = ⊥
 ListsMissing m (Some listed) = Any (λ p. length (cluster_of m).processors ≤ p) listed
 
--- the choice of a run at the cursor, whose turn is the cursor: the first enabled step of the processors that the run goes through,
--- or none
-abbrev pub ChoosesNext : {A : Type 0} → Option (List ℕ) → TimelineValue A → Option (Step A) → Type 0
-ChoosesNext only m choice = Chooses (cluster_of m) (candidates_from (cluster_of m) m.cursor only) choice
-
--- a run may continue with this step
+-- a run may continue with this step, the first enabled one of the processors that it goes through; the turn is the cursor
 pub record Goes {A : Type 0} (only : Option (List ℕ)) (m : TimelineValue A) (x : Step A) (new : TimelineValue A) : Type 0 where
-  pub chosen : ChoosesNext only m (Some x)
+  pub chosen : Chooses (cluster_of m) (candidates_from (cluster_of m) m.cursor only) (Some x)
   pub made : new ≡ extended m x
 
 -- the run has executed this many steps, and no breakpoint held after any of them
@@ -104,7 +100,8 @@ HasRun only breaks (suc n) m new = record {
 -- why a run stops after `ran` steps
 abbrev pub StopsAt : {A : Type 0} → Option (List ℕ) → BreakMap → ℕ → TimelineValue A → ℕ → Stop → TimelineValue A → Type 0
 StopsAt only breaks limit m ran stop.Limit new = (ran ≡ limit) × HasRun only breaks ran m new
-StopsAt only breaks limit m ran stop.Idle new = (ran < limit) × HasRun only breaks ran m new × ChoosesNext only new None
+StopsAt {A} only breaks limit m ran stop.Idle new =
+    (ran < limit) × HasRun only breaks ran m new × AreRefused {A = A} (cluster_of new) (candidates_among (cluster_of new) only)
 StopsAt {A} only breaks limit m ran (stop.Break id) new = record {
   mid : TimelineValue A;
   step : Step A;

@@ -22,8 +22,8 @@ loop-p-preserved g c =
     let more : p < end = omega (arith, c.loop-p-test.true) in
     record {
       listed = λ new rest. c.loop-p.invariant.listed new
-        (subst (λ xs. Lists s xs c.loop-p.listed new) (sym (next_of (candidates_if s None) p end more))
-        (lists_both s c.loop-p.listed c.list_on.new.listed new (candidates_of s p) (candidates_on s None (range_with_len (p + 1) (end - (p + 1)))) c.in_ok-list_on.ensures rest));
+          (subst (λ xs. Lists s xs c.loop-p.listed new) (sym (next_of (candidates_if s None) p end more))
+          (lists_both s c.loop-p.listed c.list_on.new.listed new (candidates_of s p) (candidates_on s None (range_with_len (p + 1) (end - (p + 1)))) c.in_ok-list_on.ensures rest));
       end = c.loop-p.invariant.end;
     }
 

@@ -28,12 +28,11 @@ returns-in-Some g c =
     let p = c.loop-p.p in
     let r = c.in-Some.record in
     let more : p < c.args.hi = omega (arith, c.loop-p-test.true) in
-    let found : Finds {A = g.row.A.Denot} s (candidates_if s only p) (Some r) = subst (Finds s (candidates_if s only p)) c.in-Some.is c.in_ok-record.ensures in
-    (
+    let found : Finds {A = g.row.A.Denot} s (candidates_if s only p) (Some r) = subst (Finds s (candidates_if s only p)) c.in-Some.is c.in_ok-record.ensures in (
       c.loop-p.invariant (Some r.step)
-      (subst (λ xs. Chooses s xs (Some r.step)) (sym (next_of (candidates_if s only) p c.args.hi more))
-      (chooses_sooner s (candidates_if s only p) (candidates_on s only (range_with_len (p + 1) (c.args.hi - (p + 1)))) r.step found.0)),
-      found.1
+          (subst (λ xs. Chooses s xs (Some r.step)) (sym (next_of (candidates_if s only) p c.args.hi more))
+          (chooses_sooner s (candidates_if s only p) (candidates_on s only (range_with_len (p + 1) (c.args.hi - (p + 1)))) r.step found.0)),
+      found.1,
     )
 
 pub returns : goal.returns
