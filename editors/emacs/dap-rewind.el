@@ -7,6 +7,9 @@
 (require 'dap-mode)
 (require 'dap-ui)
 
+(defvar treemacs-text-scale nil
+  "Read by lsp-treemacs; treemacs before 3.0, as in Debian 12, does not define it.")
+
 (defvar dap-rewind-adapter
   (expand-file-name "../../tools/dap" (file-name-directory (or load-file-name buffer-file-name)))
   "The path of the adapter.")
@@ -37,8 +40,11 @@
   "Debug the script PROGRAM on so many PROCESSORS."
   (interactive (list (read-file-name "Script: " nil buffer-file-name t)
                      (read-number "Processors: " 1)))
+  (dap-mode 1)
+  (dap-ui-mode 1)
   (dap-debug (list :type "rewind" :request "launch" :name "rewind" :processors processors
-                   :program (expand-file-name program))))
+                   :program (expand-file-name program)))
+  (save-selected-window (dap-ui-locals)))
 
 (defun dap-rewind--asked (command &rest arguments)
   "Send the request COMMAND with ARGUMENTS, and return the body of the response."
@@ -104,8 +110,21 @@
     map)
   "Keys of a session, for a prefix of your own.")
 
+(defun dap-rewind--stay (go session &rest arguments)
+  "Call GO on SESSION with ARGUMENTS; who types in the debug console stays there."
+  (if (and (equal (plist-get (dap--debug-session-launch-args session) :type) "rewind")
+           (eq (buffer-local-value 'major-mode (window-buffer)) 'dap-ui-repl-mode))
+      (save-selected-window (apply go session arguments))
+    (apply go session arguments)))
+
+(advice-add 'dap--go-to-stack-frame :around #'dap-rewind--stay)
+
+;; The list of kept steps is only read, and changes with each new step. Reasons are long.
+(add-to-list 'auto-mode-alist '("\\.rewind\\'" . special-mode))
 (add-to-list 'revert-without-query "\\.rewind\\'")
 (setq dap-ui-variable-length (max dap-ui-variable-length 200))
+(setf (alist-get dap-ui--locals-buffer dap-ui-buffer-configurations nil nil #'equal)
+      '((side . right) (slot . 1) (window-width . 0.5)))
 
 (provide 'dap-rewind)
 ;;; dap-rewind.el ends here

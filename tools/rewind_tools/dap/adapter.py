@@ -263,6 +263,8 @@ class Adapter(Asking, Breaking):
             session = Session(script.graph, words, on_note=lambda it: self.say(it, "stderr"))
         except Ended as fault:
             raise Refused(str(fault)) from fault
+        except OSError as fault:
+            raise Refused(f"the program does not start: {fault.strerror}") from fault
         if opening.graph_refused(session):
             why = opening.graph_refused(session)
             session.close()

@@ -5,7 +5,7 @@ import json
 
 from rewind_tools import completing
 from rewind_tools.prompt import Prompt
-from rewind_tools.script import QUERIES, STEPS
+from rewind_tools.script import FORMS, QUERIES, STEPS
 from rewind_tools.telling.commands import FIRM, counted
 from rewind_tools.telling.reasons import why_words
 from rewind_tools.typed import NotTyped, words_of_line
@@ -127,6 +127,10 @@ class Console(Prompt):
         finally:
             self.may_discard = False
         return self.taken()
+
+    def is_known(self, text):
+        """Whether a typed line begins with a word of the prompt."""
+        return text.startswith("{") or words_of_line(text)[0] in {*FORMS, *self.own_words()}
 
     def completed(self, text):
         """What may stand in place of the last word of a text: how long that word is, and the words."""

@@ -145,7 +145,8 @@ class Variables:
                 question = asked_about(step, refused, self.teller.graph.holds)
                 said = self.teller.refused(step, refused, None)[0]
                 opened = partial(self.why, question) if question else None
-                found.append(Variable(command_words(step), said.removeprefix("refused, "), opened))
+                name = command_words(step).removeprefix(f"processor {p} ")
+                found.append(Variable(name, said.removeprefix("refused, "), opened))
         return found
 
     def why(self, question):
