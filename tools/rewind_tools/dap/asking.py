@@ -37,7 +37,7 @@ class Asking:
         p = self.processor(asked["threadId"])
         position = {"column": self.first_column}
         frames = []
-        if self.scripted.shown:
+        if self.scripted.is_shown():
             line = self.scripted.shown.number - 1 + self.first_line
             frames.append({
                 "id": SCRIPT_FRAMES + p + 1, "name": self.scripted.frame_words(), "line": line, **position,
@@ -65,7 +65,7 @@ class Asking:
 
     @on("exceptionInfo", STOPPED)
     def exception_info(self, asked):
-        if not self.scripted.fault:
+        if not (self.scripted.fault and self.scripted.is_shown()):
             raise Refused("no line of the script was refused here")
         name, why = self.scripted.fault
         return {"exceptionId": name, "description": why, "breakMode": "always"}

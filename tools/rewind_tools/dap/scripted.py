@@ -20,6 +20,10 @@ class Scripted:
     def left(self):
         return len(self.script.lines) - self.done
 
+    def is_shown(self):
+        """Whether the session stands at the line that is shown."""
+        return bool(self.shown) and self.place in (None, self.here())
+
     def is_here(self):
         """Whether the script's next line comes next: lines are left, and the session is where they began."""
         return bool(self.left) and self.place in (None, self.here())

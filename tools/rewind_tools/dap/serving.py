@@ -1,5 +1,7 @@
 """The adapter at a port of this machine, for the user who started it."""
+import contextlib
 import os
+import socket
 import socketserver
 
 from rewind_tools import tool
@@ -36,6 +38,8 @@ class Handler(socketserver.StreamRequestHandler):
     def handle(self):
         if is_own(self.client_address, self.request.getsockname()):
             Adapter(self.rfile, self.wfile).serve()
+            with contextlib.suppress(OSError):
+                self.request.shutdown(socket.SHUT_RDWR)  # so that nothing is read from it any more
 
 
 def serve(port):

@@ -6,7 +6,7 @@ import os
 from rewind_tools.dap.console import plain
 from rewind_tools.telling.commands import command_words
 
-END = "(end of the kept steps)"
+END = "-- the end of the kept steps"
 # How many steps are asked for one by one; more are asked for by all kept steps at once.
 FEW = 500
 
