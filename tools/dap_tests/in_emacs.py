@@ -12,9 +12,13 @@ from rewind_tools import testing
 from rewind_tools.testing import TOP
 
 ELISP, SESSION = f"{TOP}/editors/emacs/dap-rewind.el", f"{os.path.dirname(__file__)}/session.el"
-# An adapter that writes what it is asked and what it says to files beside it.
+# An adapter that writes what it is asked and what it says to files beside it, and ends with it.
 ADAPTER = """#!/bin/sh
-tee "$0.asked" | '{}' | tee "$0.said"
+mkfifo "$0.pipe"
+exec 3<&0
+tee "$0.asked" <&3 >"$0.pipe" &
+'{}' <"$0.pipe" | tee "$0.said"
+kill $!
 """
 NOT_YET = "10 NotYet: processor 0's view has words (0) strictly before total (0)"
 SEEN = f"""\
