@@ -118,5 +118,6 @@ class InEmacs(testing.Case):
 
 
 def plain(text):
-    """The lines without the blanks and triangles before them."""
-    return [it.strip(" \u25b8\u25be") for it in text.splitlines()]
+    """The lines without the blanks and triangles before them, and without the root that treemacs hides."""
+    lines = [it.strip(" \u25b8\u25be") for it in text.splitlines()]
+    return [it for it in lines if it != "Hidden Node"]
