@@ -69,7 +69,7 @@ class Condition:
 
 
 class Entry:
-    """An entry of a view: of processor `q` at a place and a time."""
+    """An entry of the view of processor `q`, at a location and a time."""
 
     reason = "data breakpoint"
 
