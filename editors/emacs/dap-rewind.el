@@ -26,13 +26,12 @@
     (setq dap-rewind--conditions nil dap-rewind--entries nil)
     (append conf
             (list :dap-server-path (list dap-rewind-adapter)
-                  :stepsFile (expand-file-name (concat name ".rewind") (make-temp-file "rewind-" t))
+                  :stepsFile (make-temp-file (concat name "-") nil ".rewind")
                   :cleanup-function #'dap-rewind--cleaned))))
 
 (defun dap-rewind--cleaned (session)
-  "Remove the list of kept steps of SESSION."
-  (let ((file (plist-get (dap--debug-session-launch-args session) :stepsFile)))
-    (delete-directory (file-name-directory file) t)))
+  "Remove the file with the kept steps of SESSION."
+  (delete-file (plist-get (dap--debug-session-launch-args session) :stepsFile)))
 
 (dap-register-debug-provider "rewind" #'dap-rewind--configured)
 

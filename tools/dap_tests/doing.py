@@ -201,7 +201,6 @@ class Typed(testing.Case):
         self.same("the end", client.status(), 0)
         (said,) = [it for it in client.said if "the kept steps are in" in it]
         path = said.rpartition(" ")[2]
-        self.addCleanup(os.unlink, path)
         with Client() as other:
             other.launch(path)
             self.same("the steps", other.answer("where"), "position 16 of 16")

@@ -57,7 +57,9 @@ class Client:
     """An adapter, and what it has said."""
 
     def __init__(self, command=None, **environment):
-        how = {"stdin": -1, "stdout": -1, "stderr": -1, "env": {**os.environ, **environment}}
+        self.room = tempfile.TemporaryDirectory(prefix="rewind-dap-")  # for files that the adapter leaves
+        environment = {**os.environ, "TMPDIR": self.room.name, **environment}
+        how = {"stdin": -1, "stdout": -1, "stderr": -1, "env": environment}
         self.process = subprocess.Popen(command or COMMAND, **how)
         self.number, self.inbox, self.said = 0, queue.Queue(), []
         threading.Thread(target=self.read_all, daemon=True).start()
@@ -70,6 +72,7 @@ class Client:
         self.process.wait()
         for it in (self.process.stdin, self.process.stderr):
             it.close()
+        self.room.cleanup()
 
     def read_all(self):
         out = self.process.stdout
