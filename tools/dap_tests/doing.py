@@ -1,5 +1,6 @@
 """What the requests do: the mapping of docs/EDITOR.md."""
 import contextlib
+import json
 import os
 import re
 import shutil
@@ -414,6 +415,41 @@ class Stops(testing.Case):
         client.stop("goto", threadId=1, targetId=1)
         said = client.ask("stepBack", threadId=1)["message"]
         self.same("the start", said, "this is the start: no step is kept before it")
+
+
+class Pages(testing.Case):
+    """What docs/EDITOR.md and the configurations say."""
+
+    def read(self, path):
+        with open(f"{TOP}/{path}", encoding="utf-8") as it:
+            return it.read()
+
+    def test_way_to_the_reason(self):
+        """The lines of the page deliver the notification."""
+        page = self.read("docs/EDITOR.md")
+        lines = re.search(r"```text\n(.*?)```", page, re.DOTALL)[1].split("\n")
+        with Client() as client:
+            client.launch(filters=["refused"])
+            answers = [client.answer(it.strip()) for it in lines if it.strip()]
+        wanted = "step 15: processor 0 runs the notification of total (0)"
+        self.holds("delivered", len(answers) == 4 and wanted in answers[-1], answers)
+        self.holds("the reason", "it still counts 1; held there: the token of processor 1" in page)
+
+    def test_keys(self):
+        """The page names the keys of dap-rewind.el."""
+        table = self.read("docs/EDITOR.md").partition("## Keys in Emacs")[2]
+        named = [key for it in re.findall(r"(?m)^\| (`.*?) \|", table) for key in re.findall("`(.)`", it)]
+        bound = re.findall(r'\("(.)" \. [\w-]+\)', self.read("editors/emacs/dap-rewind.el"))
+        self.same("keys", sorted(named), sorted(bound))
+
+    def test_manifest(self):
+        """The manifest for VS Code starts the adapter, and has the attributes that 'launch' takes."""
+        (debugger,) = json.loads(self.read("editors/vscode/package.json"))["contributes"]["debuggers"]
+        path = os.path.normpath(f"{TOP}/editors/vscode/{debugger['program']}")
+        self.same("the adapter", (path, os.access(path, os.X_OK)), (*COMMAND, True))
+        given = debugger["configurationAttributes"]["launch"]["properties"]
+        self.same("attributes", {*given}, {"program", "processors", "stopOnEntry", "stepsFile"})
+        self.holds("in the page", all(f"`{it}`" in self.read("docs/EDITOR.md") for it in given))
 
 
 class AtPort(testing.Case):

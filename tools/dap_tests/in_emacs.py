@@ -121,6 +121,6 @@ class InEmacs(testing.Case):
 def plain(text):
     """The lines without the blanks and triangles before them, and without the root that treemacs hides; the
     list of kept steps without the random part of its name."""
-    text = re.sub(r"-\w+\.rewind", ".rewind", text)
+    text = re.sub(r"-\w{6}\.rewind", ".rewind", text)
     lines = [it.strip(" \u25b8\u25be") for it in text.splitlines()]
     return [it for it in lines if it != "Hidden Node"]

@@ -131,7 +131,7 @@ class Adapter(Asking, Breaking):
             raise Refused("the arguments are no object")
         try:
             return method(self, arguments)
-        except (KeyError, TypeError, AttributeError) as fault:
+        except (LookupError, TypeError, ValueError, AttributeError) as fault:
             raise Refused(f"{command} lacks an argument, or one has a wrong type: {fault}") from fault
 
     def responded(self, is_success, **members):
