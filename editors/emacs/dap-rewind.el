@@ -18,7 +18,7 @@
   "The conditions at which the current session stops.")
 
 (defvar dap-rewind--entries nil
-  "The entries of views at whose change the current session stops, as the adapter names them.")
+  "The entries of views at whose change the current session stops.")
 
 (defun dap-rewind--configured (conf)
   "Complete the launch configuration CONF."
@@ -70,14 +70,16 @@
                        :targetId (1+ position))))
 
 (defun dap-rewind-break (condition)
-  "Stop where CONDITION, as \"passed 0 out 0\", begins to hold; without one, remove all conditions."
+  "Stop where CONDITION, as \"passed 0 out 0\", begins to hold.
+Without one, remove all conditions."
   (interactive "sStop when: ")
   (setq dap-rewind--conditions
         (unless (string-empty-p condition) (append dap-rewind--conditions (list condition))))
   (dap-rewind--set "setFunctionBreakpoints" :name dap-rewind--conditions))
 
 (defun dap-rewind-watch (entry)
-  "Stop where ENTRY of the thread's view changes, as \"words 0\"; without one, remove all entries."
+  "Stop where ENTRY of the thread's view, as \"words 0\", changes.
+Without one, remove all entries."
   (interactive "sStop when this changes in the view: ")
   (let ((frame (dap--debug-session-active-frame (dap--cur-active-session-or-die))))
     (setq dap-rewind--entries
@@ -89,7 +91,8 @@
     (dap-rewind--set "setDataBreakpoints" :dataId dap-rewind--entries)))
 
 (defun dap-rewind--set (command key values)
-  "Set breakpoints by COMMAND, with the VALUES under KEY, and say what came of the last one."
+  "Set breakpoints by COMMAND, with the VALUES under KEY.
+Say what came of the last one."
   (let* ((wanted (vconcat (mapcar (lambda (it) (list key it)) values)))
          (told (gethash "breakpoints" (dap-rewind--asked command :breakpoints wanted)))
          (it (car (last told))))

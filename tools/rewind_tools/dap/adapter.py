@@ -168,6 +168,9 @@ class Adapter(Asking, Breaking):
         except StopIteration as end:
             self.work = None
             self.stopped(end.value)
+        except Refused as fault:
+            self.work = None
+            self.stopped(Stop("refused", str(fault)))
 
     def start(self, work):
         """Begins a long move, after the response."""

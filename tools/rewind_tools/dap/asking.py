@@ -196,6 +196,8 @@ class Asking:
     def pause(self, asked):
         if self.work:
             self.work = None
+            if self.scripted.is_here():
+                self.scripted.show_next()
             self.later(lambda: self.stopped(Stop("pause")))
 
     @on("gotoTargets", STOPPED)

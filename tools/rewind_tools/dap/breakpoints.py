@@ -170,7 +170,8 @@ class Breakpoints:
         if "error" in reply:
             raise NotSet("; ".join(plain(it) for it in self.console.answer(line, reply)))
         self.console.session.ask({"do": "unbreak", "id": reply["id"]})
-        if len(self.conditions) + len(self.entries) + len(self.console.whens) >= MOST_BREAKS:
+        waiting = [it for it in self.conditions.values() if it.id is None]
+        if len(waiting) + len(self.entries) + len(self.console.whens) >= MOST_BREAKS:
             raise NotSet(f"{MOST_BREAKS} breakpoints are set, and no more can be")
 
     def set_entry(self, number, q, place, time):
@@ -240,7 +241,8 @@ class Armed:
             self.ask({"do": "unbreak", "id": it.id})
         whens = [negated(it.when) for it in self.is_armed]
         whens += [it.change(self.counts[number]) for number, it in breakpoints.entries.items()]
-        self.set = [self.ask({"do": "break", "when": it})["id"] for it in whens]
+        ids = [self.ask({"do": "break", "when": it}).get("id") for it in whens]
+        self.set = [it for it in ids if it is not None]  # if the prompt has set too many, some find no room
 
     def end(self):
         """Puts the program's breakpoints back, each under its number."""

@@ -7,6 +7,8 @@ import time
 from typing import NamedTuple
 
 from rewind_tools.dap.breakpoints import PIECE, Breakpoints
+from rewind_tools.dap.console import plain
+from rewind_tools.dap.requests import Refused
 
 # How many steps of a run are executed at once, and for how many seconds lines of the script are.
 RUN_PIECE, SECONDS = 1000, 0.05
@@ -34,7 +36,13 @@ class Moving:
         self.breakpoints = Breakpoints(console)
 
     def jump(self, position):
-        self.console.asked({"do": "jump", "to": position})
+        self.command({"do": "jump", "to": position})
+
+    def command(self, line):
+        """Executes a command that moves the cursor among the kept steps."""
+        reply = self.console.asked(line)
+        if "error" in reply:
+            raise Refused("; ".join(map(plain, self.console.answer(line, reply))))
 
     # ---- the script
 
@@ -88,7 +96,7 @@ class Moving:
         if self.scripted.is_here():
             return self.script_line()
         if self.console.at < self.console.kept:
-            self.console.asked({"do": "redo"})
+            self.command({"do": "redo"})
             return Stop("step")
         line = {"do": "run", "limit": 1, **({} if only is None else {"only": only})}
         reply = self.console.asked(line)
@@ -98,14 +106,14 @@ class Moving:
         """The stop of a run that went no further."""
         if reply.get("stop") == "idle":
             return Stop("idle", self.idle_words(line))
-        return Stop("refused", "; ".join(self.console.answer(line, reply)))
+        return Stop("refused", "; ".join(map(plain, self.console.answer(line, reply))))
 
     def idle_words(self, line):
         alone = f" on processor {line['only'][0]}" if "only" in line else ""
         return f"nothing is enabled{alone}: only a feed or a release is left"
 
     def back(self):
-        self.console.asked({"do": "back"})
+        self.command({"do": "back"})
         return Stop("step")
 
     # ---- as far as a breakpoint
