@@ -119,6 +119,14 @@ class Seen(testing.Case):
                 self.same(text, it.read(), client.body("source", source=shown)["content"])
 
 
+    def test_no_file_of_steps(self):
+        """Without a file that can be written there is the list."""
+        self.client.launch(stepsFile="/nowhere/steps")
+        self.holds("said", "stderr: /nowhere/steps: No such file or directory" in self.client.said)
+        shown = self.client.body("stackTrace", threadId=1)["stackFrames"][0]["source"]
+        self.holds("the list", self.client.body("source", **shown)["content"].count("\n") == 26, shown)
+
+
 class Typed(testing.Case):
     def setUp(self):
         self.client = self.enterContext(Client())

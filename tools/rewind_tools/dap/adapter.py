@@ -187,7 +187,7 @@ class Adapter(Asking, Breaking):
         self.moving.leave_script()
         self.state, self.stop = STOPPED, stop
         self.forget()
-        self.steps.changed()
+        self.list_steps()
         if stop.reason in ("exception", "idle", "refused"):
             self.say(stop.words, "stderr")
         elif stop.words:
@@ -195,6 +195,14 @@ class Adapter(Asking, Breaking):
         self.verify_lines()
         self.thread = self.thread_of(stop)
         self.send_stop()
+
+    def list_steps(self):
+        """Keeps the list of steps current. Without its file the editor asks for the list by its number."""
+        try:
+            self.steps.changed()
+        except OSError as fault:
+            self.steps.path = None
+            self.say(tool.words_of(fault), "stderr")
 
     def send_stop(self):
         stop = self.stop
