@@ -118,7 +118,6 @@ class Seen(testing.Case):
             with open(path, encoding="utf-8") as it:
                 self.same(text, it.read(), client.body("source", source=shown)["content"])
 
-
     def test_no_file_of_steps(self):
         """Without a file that can be written there is the list."""
         self.client.launch(stepsFile="/nowhere/steps")
