@@ -294,6 +294,36 @@ class Ends(testing.Case):
             self.same("said", response["message"], "the program ended by signal 9")
             self.judge_killed(client, "at a stop")
 
+    def test_script_gone(self):
+        """A session whose script has gone cannot begin anew, until the script is there again."""
+        path = script_file(self.addCleanup, [ROUND])
+        with Client() as client:
+            client.launch(path, 1)
+            os.rename(path, f"{path}-away")
+            self.same("gone", client.ask("restart")["message"], f"{path}: No such file or directory")
+            said = client.ask("threads")["message"]
+            self.same("ended", said, f"threads cannot come now: {WHY_NOT[ENDED]}")
+            os.rename(f"{path}-away", path)
+            self.same("there", client.stop("restart"), "stopped in 1, entry: the script is executed")
+
+    def test_killed_in_a_typed_run(self):
+        with Client() as client:
+            client.launch(script_file(self.addCleanup, [ROUND, FEED]), 1)
+            client.send("evaluate", expression="run 900000", context="repl")
+            time.sleep(0.5)
+            os.kill(client.program(), signal.SIGKILL)
+            self.judge_killed(client, "in a typed run")
+
+    def test_paused_in_a_typed_run(self):
+        """'pause' stops a run that was typed."""
+        with Client() as client:
+            client.launch(script_file(self.addCleanup, [ROUND, FEED]), 1)
+            client.send("evaluate", expression="run 900000", context="repl")
+            time.sleep(0.5)
+            client.send("pause", threadId=1)
+            client.until("stopped")
+            self.holds("before its end", client.at() < 900_001, client.at())
+
     def test_killed_in_a_run(self):
         with Client() as client:
             client.launch(script_file(self.addCleanup, [ROUND, FEED]), 1)

@@ -295,8 +295,8 @@ class Adapter(Asking, Breaking):
     def restart(self, asked):
         if isinstance(asked.get("arguments"), dict) and "program" in asked["arguments"]:
             self.given = self.checked(asked["arguments"])
-        self.work = None
         self.end_session()
+        self.state = ENDED  # if the script cannot be opened any more
         self.open_session()
         self.set_again()
         self.start(self.moving.begin(self.given["is_entry"]))
@@ -312,6 +312,7 @@ class Adapter(Asking, Breaking):
 
     def end(self, status):
         """Says that the session has ended; it may begin anew."""
+        self.after.clear()
         self.end_session()
         self.out.event("exited", exitCode=status)
         self.out.event("terminated")
