@@ -319,7 +319,6 @@ class Ends(testing.Case):
         with Client() as client:
             client.launch(script_file(self.addCleanup, [ROUND, FEED]), 1)
             client.send("evaluate", expression="run 900000", context="repl")
-            time.sleep(0.5)
             client.send("pause", threadId=1)
             client.until("stopped")
             self.holds("before its end", client.at() < 900_001, client.at())

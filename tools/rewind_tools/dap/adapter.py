@@ -4,6 +4,7 @@
 
 A thread reads requests into a queue. The main thread answers them, and between two of them goes on with a
 long move, if there is one. So a run can be paused, and no two requests are answered at once."""
+import collections
 import os
 import queue
 import tempfile
@@ -40,7 +41,8 @@ class Adapter(Asking, Breaking):
         self.after, self.reply_to = [], None
         self.stops_at_refused, self.script_breaks = True, set()
         self.next_number, self.asked_breaks = 1, {}
-        self.status = 0
+        # the requests that wait and would stop a long command of the prompt
+        self.status, self.stopping = 0, collections.deque()
 
     # ---- the loop
 
@@ -69,17 +71,11 @@ class Adapter(Asking, Breaking):
                 item = fault
             except OSError:
                 item = None
+            if isinstance(item, dict) and item["command"] in STOPPING:
+                self.stopping.append(item)
             self.inbox.put(item)
             if item is None or isinstance(item, framing.Broken):
                 return
-            if isinstance(item, dict) and item["command"] in ("pause", "disconnect", "terminate", "restart"):
-                self.ask_to_stop()
-
-    def ask_to_stop(self):
-        """Has a long command of the prompt stop after its next piece."""
-        console = self.console
-        if console:
-            console.stop.is_asked = True
 
     def next_item(self):
         try:
@@ -90,6 +86,8 @@ class Adapter(Asking, Breaking):
     def take(self, item):
         """Takes what was read."""
         if isinstance(item, dict):
+            if item["command"] in STOPPING:
+                self.stopping.popleft()
             self.answer(item)
         elif isinstance(item, framing.NoRequest):
             self.say(str(item), "stderr")
@@ -280,7 +278,7 @@ class Adapter(Asking, Breaking):
             why = opening.graph_refused(session)
             session.close()
             raise Refused(why)
-        self.console = Console(session)
+        self.console = Console(session, lambda: bool(self.stopping))
         self.scripted = Scripted(self.console, script, self.given["program"])
         self.scripted.breaks, self.scripted.stops_at_refused = self.script_breaks, self.stops_at_refused
         self.moving = Moving(self.console, self.scripted, self.say)
@@ -342,6 +340,7 @@ class Adapter(Asking, Breaking):
             pass  # what the program had is lost with it
 
 
+STOPPING = ("pause", "restart", "terminate", "disconnect")
 MOVES = ("next", "stepIn", "stepOut", "stepBack", "continue", "reverseContinue", "goto")
 WHY_NOT = {
     NEW: "'initialize' comes first",

@@ -34,12 +34,30 @@ def is_question(text):
     return not words or words[0] in QUERIES or words[0] in QUESTIONS
 
 
+class Asked:
+    """In place of Ctrl-C at a terminal: whether a long command is asked to stop."""
+
+    def __init__(self, is_wanted):
+        self.is_wanted = is_wanted
+
+    @property
+    def is_asked(self):
+        return self.is_wanted()
+
+    def __enter__(self):
+        pass
+
+    def __exit__(self, *_):
+        pass
+
+
 class Console(Prompt):
     """A session's prompt. `same_to` is up to which position the kept steps are those that were listed last,
     `changes` counts what has changed them, and `whens` has the condition of each breakpoint that is set."""
 
-    def __init__(self, session):
+    def __init__(self, session, is_wanted):
         super().__init__(session)
+        self.stop = Asked(is_wanted)
         self.said, self.may_discard, self.asked_about = [], False, None
         self.same_to, self.changes, self.whens = 0, 0, {}
 
