@@ -3,9 +3,9 @@
     package.write(folder)      the path of rewind-VERSION-linux-x86_64.tar.gz, which is written there
 
 VERSION is the date and the number of the commit. The package has the program, ./rewind, the tools that ask
-the program, the pages and the examples, and PROVED.txt, which says from what the program was built. ./rewind
-compares the program with the sum there. All else that a checkout can start is a link to a script that says
-that it needs one. The same commit and the same program give the same bytes.
+the program, the pages, the editors' configurations and the examples, and PROVED.txt, which says from what
+the program was built. ./rewind compares the program with the sum there. All else that a checkout can start
+is a link to a script that says that it needs one. The same commit and the same program give the same bytes.
 
 There is no package, but a tool.Fault, if the program is not proved, or older than its sources, or if a file
 that goes into the package, or a source, is not as the commit has it."""
@@ -27,9 +27,9 @@ from rewind_tools.runs import TOP
 PROGRAM = os.path.join(TOP, "crates", "rewind_cli", "out", "rewind_cli")
 SOURCES = ("crates", "crates.txt")
 # What a checkout can start, with what goes into the package.
-WITHIN = ("README.md", "rewind", "check", "docs", "examples", "tools", "gate", "bench")
+WITHIN = ("README.md", "rewind", "check", "docs", "editors", "examples", "tools", "gate", "bench")
 PACKED = re.compile(
-    r"README\.md|rewind|(?:docs|examples)/.*|tools/(?:graph|live|repl|replay|show|tell)"
+    r"README\.md|rewind|(?:docs|editors|examples)/.*|tools/(?:dap|graph|live|repl|replay|show|tell)"
     r"|tools/rewind_tools/(?!(?:browser|package|testing)\.py$).*"
 )
 LINK = re.compile(r"\[((?:[^\[\]`]|`[^`]*`)*)\]\(([^()\s]+)\)")
