@@ -1,11 +1,11 @@
 -- The phases that a run's values stand for.
 use Rattle.std.specs.Prelude.{◌≡◌, Bool, true, false, ℕ, List, [], ◌∷◌, length, Option, Some, None, Result, Vec}
 use Rattle.serde_json.specs.Data.{Data}
-use Rattle.serde_json.specs.Written.{compact_text}
 use Rattle.std.specs.declared.alloc.Global.{Global}
 use Rattle.nd_graph.specs.Graph.{Dataflow}
 use Rattle.nd_graph.specs.declared.fault.GraphFault.{GraphFault}
 use Rattle.nd_session.specs.State.{StateValue}
+use Rattle.rewind_forms.specs.Replies.{TellsOne}
 use Rattle.rewind_forms.specs.declared.version.Version.{Version}
 use Rattle.rewind_answers.specs.Answers.{Logged, Phase, unopened, unstarted, running, refused, StartReplies}
 use Rattle.rewind_answers.specs.declared.stage.Script.{Script}
@@ -38,10 +38,6 @@ Starts v processors graph reply state = StartReplies v processors graph (reply �
 abbrev pub phase_after : Bool → Stage → Phase
 phase_after true stage = refused
 phase_after false stage = phase_of stage
-
--- the text is that of a reply which may be given
-abbrev pub TellsOne : (Data → Type 0) → List ℕ → Type 0
-TellsOne May text = (reply : Data) × May reply × (text ≡ compact_text reply)
 
 -- the text of an answer, if it has one, is that of replies which may be given: none or one
 abbrev pub Tells : (List Data → Type 0) → Option (Vec ℕ Global) → Type 0

@@ -5,7 +5,6 @@ ghost use Rattle.rewind_lines.specs.Faults.{is_write_fault};
 ghost use Rattle.rewind_clients.specs.Gathered.{Gathered, GatherFails, IsOfWriting};
 ghost use Rattle.rewind_clients.specs.Written.{WroteFront};
 
-use nd_json::Json;
 use rewind_lines::{DebugFault, Outbox, Sink, Unwritten};
 
 /// Writes the replies that wait.
@@ -25,7 +24,7 @@ pub fn flush<T: Sink>(outbox: &mut Outbox, sink: &mut T) -> Result<(), Unwritten
 
 /// Gathers one more reply, and writes all waiting replies if they are many: afterwards fewer than
 /// 65,536 bytes wait.
-pub fn put<T: Sink>(outbox: &mut Outbox, sink: &mut T, reply: &Json) -> Result<(), DebugFault>
+pub fn put<T: Sink>(outbox: &mut Outbox, sink: &mut T, text: Vec<u8>) -> Result<(), DebugFault>
     requires sound { T.failed sink.old ≡ false }
     ensures ok { OnOk result ((replies : List Data) (before : List ℕ)
         → Gathered replies outbox.old before (T.contents sink.old)
@@ -37,7 +36,7 @@ pub fn put<T: Sink>(outbox: &mut Outbox, sink: &mut T, reply: &Json) -> Result<(
     ensures kind { IfErr result IsOfWriting }
     ensures failed { T.failed sink.new ≡ is_write_fault result }
 {
-    outbox.add(reply)?;
+    outbox.add_text(text)?;
     if outbox.is_full() {
         flush(outbox, sink)?;
     }

@@ -12,11 +12,10 @@ ghost use Rattle.rewind_clients.specs.Intake.{refused_graph, ReadsLine, no_comma
 ghost use Rattle.rewind_clients.specs.Intakes.{intake_view, lists_of, opening_replies, or_faulty, unstarted_view, version_of as version_in, Starts};
 
 use crate::order::{Order, order_fault, order_in};
-use nd_json::Json;
 use nd_session::State;
 use nd_timeline::Command;
 use rewind_answers::answer_first;
-use rewind_forms::{LineFault, Version, replies, version_of};
+use rewind_forms::{LineFault, Version, line_fault as fault_text, version_of};
 use rewind_lines::{Options, Reading};
 use serde_json::Value;
 use std::alloc::{AllocError, Global};
@@ -27,7 +26,7 @@ pub struct Script {
     /// The version that the version line names, if there was one.
     pub opened: Option<Version>,
     /// The graph's reply.
-    pub reply: Json,
+    pub reply: Vec<u8>,
     /// The `State` that begins at the initial state on the graph.
     pub state: State,
     /// Each client's commands, in the order of its lines.
@@ -41,9 +40,9 @@ pub enum Intake {
     /// blank.
     Unstarted(Option<Version>),
     /// The graph's line was refused, and this is its reply.
-    Refused(Json),
+    Refused(Vec<u8>),
     /// A line after the graph's is faulty, and this is its reply.
-    Faulty(Json),
+    Faulty(Vec<u8>),
     /// A graph, and clients' commands.
     Whole(Script),
 }
@@ -64,7 +63,7 @@ fn refuse(alloc: Global, fault: LineFault, line: u64) -> Result<Intake, AllocErr
     ensures { IfOk result (λ new. (reply : Data) × (Some reply ≡ line_fault fault line)
         × (intake_view new ≡ refused_graph reply)) }
 {
-    Ok(Intake::Refused(replies::line_fault(alloc, fault, line)?))
+    Ok(Intake::Refused(fault_text(alloc, fault, line)?))
 }
 
 // Returns the result of the graph's line, from its value.
@@ -151,7 +150,7 @@ impl Script {
         alloc: Global,
         reading: Reading,
         line: u64,
-    ) -> Result<Option<Json>, AllocError>
+    ) -> Result<Option<Vec<u8>>, AllocError>
         ensures { IfOk result (λ r. or_faulty r self.new ≡ ordered (version_in self.old)
             (opening_replies self.old) (logged self.old.state) (lists_of self.old.commands.items) line
             (order_line (version_in self.old) (length self.old.commands.items)

@@ -7,10 +7,10 @@ ghost use Rattle.rewind_clients.specs.Orders.{among, asks_query, is_query as is_
 
 use crate::numbers::without;
 use nd_graph::Graph;
-use nd_json::{Json, reply, whole_at};
+use nd_json::whole_at;
 use nd_time::Code;
 use nd_timeline::Command;
-use rewind_forms::{Asked, Form, LineFault, Version, asked_of};
+use rewind_forms::{Asked, Form, LineFault, NoNames, Version, asked_of, object, text_of};
 use rewind_lines::Reading;
 use serde_json::Value;
 use std::alloc::{AllocError, Global};
@@ -47,11 +47,12 @@ impl OrderFault {
 }
 
 /// Returns the reply to a faulty line of this number.
-pub fn order_fault(alloc: Global, fault: OrderFault, line: u64) -> Result<Json, AllocError>
+pub fn order_fault(alloc: Global, fault: OrderFault, line: u64) -> Result<Vec<u8>, AllocError>
     ensures reply { IfOk result (λ j. j ≡ order_fault_data fault line) }
 {
     let code = fault.code();
-    reply!(in alloc; {"code": code.number(), "error": code.name(), "line": line})
+    let reply = object! {"code": code.number(), "error": code.name(), "line": line};
+    text_of(alloc, &NoNames, &reply)
 }
 
 // Returns whether the line has the form of a query: from what it asks for or, if it is faulty, from

@@ -10,26 +10,27 @@ ghost use Rattle.rewind_clients.specs.Told.{client_fault, entry_data, faults_dat
 
 use crate::gather::{flush, put};
 use nd_graph::Graph;
-use nd_json::{Json, reply};
 use nd_session::{Receipt, SessionFault};
-use rewind_forms::{Version, replies};
+use rewind_forms::{NoNames, Version, object, text_of as reply_text};
 use rewind_lines::{DebugFault, Outbox, Sink};
 use std::alloc::{AllocError, Global};
 
 // Returns the line of an entry of the log.
-fn entry_value(alloc: Global, graph: &Graph, entry: &Receipt) -> Result<Json, AllocError>
+fn entry_text(alloc: Global, graph: &Graph, entry: &Receipt) -> Result<Vec<u8>, AllocError>
     ensures reply { IfOk result (λ j. j ≡ entry_data graph.now entry.now) }
 {
-    let reply = replies::command_reply(alloc, graph, &entry.reply)?;
-    reply!(in alloc; {"client": entry.client, "number": entry.number, "reply": reply})
+    let (client, number) = (entry.client, entry.number);
+    let line = object! {"client": client, "number": number, "reply": &entry.reply};
+    reply_text(alloc, graph, &line)
 }
 
 // Returns the line of a client with a command that the session refused.
-fn fault_value(alloc: Global, client: u64, fault: &SessionFault) -> Result<Json, AllocError>
+fn fault_text(alloc: Global, client: u64, fault: &SessionFault) -> Result<Vec<u8>, AllocError>
     ensures reply { IfOk result (λ j. j ≡ client_fault client (code_of fault.now)) }
 {
     let code = fault.code();
-    reply!(in alloc; {"client": client, "code": code.number(), "error": code.name()})
+    let line = object! {"client": client, "code": code.number(), "error": code.name()};
+    reply_text(alloc, &NoNames, &line)
 }
 
 /// Gathers the lines of the entries of a log.
@@ -52,8 +53,8 @@ pub fn put_log<T: Sink>(
     ensures failed { T.failed sink.new ≡ is_write_fault result }
 {
     for entry in log {
-        let value = entry_value(alloc, graph, entry)?;
-        put(outbox, sink, &value)?;
+        let text = entry_text(alloc, graph, entry)?;
+        put(outbox, sink, text)?;
     }
     Ok(())
 }
@@ -80,8 +81,8 @@ fn put_fault<T: Sink>(
     let Some(fault) = fault else {
         return Ok(());
     };
-    let value = fault_value(alloc, client, fault)?;
-    put(outbox, sink, &value)?;
+    let text = fault_text(alloc, client, fault)?;
+    put(outbox, sink, text)?;
     Ok(())
 }
 
@@ -110,7 +111,7 @@ pub fn put_faults<T: Sink>(
 }
 
 /// Writes one reply.
-pub fn tell_one<T: Sink>(alloc: Global, sink: &mut T, reply: &Json) -> Result<(), DebugFault>
+pub fn tell_one<T: Sink>(alloc: Global, sink: &mut T, text: Vec<u8>) -> Result<(), DebugFault>
     requires sound { T.failed sink.old ≡ false }
     ensures ok { OnOk result ((before : List ℕ) → T.contents sink.old ≡ Some before
         → T.contents sink.new ≡ Some (before ++ text_of (reply.now ∷ []))) }
@@ -120,7 +121,7 @@ pub fn tell_one<T: Sink>(alloc: Global, sink: &mut T, reply: &Json) -> Result<()
     ensures failed { T.failed sink.new ≡ is_write_fault result }
 {
     let mut outbox = Outbox::new(alloc);
-    put(&mut outbox, sink, reply)?;
+    put(&mut outbox, sink, text)?;
     flush(&mut outbox, sink)?;
     Ok(())
 }
@@ -145,8 +146,8 @@ fn put_version<T: Sink>(
     let Some(version) = opened else {
         return Ok(());
     };
-    let reply = replies::version(alloc, version.number())?;
-    put(outbox, sink, &reply)?;
+    let text = reply_text(alloc, &NoNames, &object! {"ok": true, "version": version.number()})?;
+    put(outbox, sink, text)?;
     Ok(())
 }
 
@@ -175,7 +176,7 @@ pub fn tell_opening<T: Sink>(
     alloc: Global,
     sink: &mut T,
     opened: Option<Version>,
-    graph: &Json,
+    graph: Vec<u8>,
 ) -> Result<(), DebugFault>
     requires sound { T.failed sink.old ≡ false }
     ensures ok { OnOk result ((before : List ℕ) → T.contents sink.old ≡ Some before

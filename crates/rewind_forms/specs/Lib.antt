@@ -18,3 +18,4 @@ pub mod Changes
 pub mod Candidates
 pub mod Times
 pub mod Effects
+pub mod NoFloats
