@@ -16,11 +16,12 @@ use Rattle.nd_processor.specs.State.{ProcessorState}
 use Rattle.nd_protocol.specs.State.{ClusterState}
 use Rattle.nd_protocol.specs.declared.step.Step.{Step}
 use Rattle.nd_protocol.specs.declared.step.Step.TheVariants.{Feed, Take, Notice, Release, Broadcast, Receive}
+use Rattle.nd_protocol.specs.declared.part.Part.{Part}
 use Rattle.nd_protocol.specs.declared.part.Part.TheVariants.{All, Points}
 use Rattle.nd_protocol.specs.declared.step.Next.{Next as Afterwards}
 use Rattle.nd_protocol.specs.declared.step.Next.TheVariants as token
 use Rattle.nd_state_json.specs.StateText.{row, natural, whole, time_data, point_data, entry_data, entries_data, item_data, record_data, sink_data, token_data, processor_data, queue_data, queues_data, state_data}
-use Rattle.rewind_forms.specs.Objects.{object_of, part_object, next_data, release_object}
+use Rattle.rewind_forms.specs.Objects.{object_of, broadcast_object, next_data, release_object}
 use Rattle.rewind_forms.specs.Replies.{step_refused, refused, stop, reply_data}
 use Rattle.rewind_forms.specs.Effects.{or_null, item_altered, record_altered, request_altered, sink_altered, token_altered, entry_altered, queue_altered, effect_data}
 use Rattle.rewind_forms.specs.Reasons.{held_data, unheard_data, reason_data}
@@ -64,8 +65,9 @@ no_float-point g p = rw (no_float-time p.time) refl
 pub no_float-entries : (g : Dataflow) (entries : List (Pointstamp × ℤ)) → has_float (entries_data g entries) ≡ false
 no_float-entries g entries = no_float-row (entry_data g) entries (λ e. rw (no_float-time e.0.time, no_float-whole e.1) refl)
 
-no_float-part : (g : Dataflow) (p : ℕ) (points : List Pointstamp) → has_float (part_object g p points) ≡ false
-no_float-part g p points = rw (no_float-row (point_data g) points (no_float-point g)) refl
+no_float-broadcast : (g : Dataflow) (p : ℕ) (part : Part Global) → has_float (broadcast_object g p part) ≡ false
+no_float-broadcast g p All = refl
+no_float-broadcast g p (Points points) = rw (no_float-row (point_data g) points (no_float-point g)) refl
 
 pub no_float-next : (next : Afterwards) → has_float (next_data next) ≡ false
 no_float-next token.Next = refl
@@ -84,8 +86,7 @@ no_float-step g (Feed p vertex values next) = rw (no_float-next next, no_float-r
 no_float-step g (Take p edge time value) = rw (no_float-time time, no_float-whole value) refl
 no_float-step g (Notice p vertex time) = rw (no_float-time time) refl
 no_float-step g (Release p vertex times) = no_float-release g p vertex times.time times.to
-no_float-step g (Broadcast p All) = refl
-no_float-step g (Broadcast p (Points points)) = no_float-part g p points
+no_float-step g (Broadcast p part) = no_float-broadcast g p part
 no_float-step g (Receive from to) = refl
 
 -- ---- a state

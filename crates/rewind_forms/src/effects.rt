@@ -91,14 +91,14 @@ impl Shown for Effect {
 
     fn send<S: Serializer, N: Names>(&self, out: &mut S, names: &N) -> Result<(), S::Error> {
         object! {
-            "items": self.items.as_slice(),
-            "queues": self.queues.as_slice(),
-            "records": self.records.as_slice(),
-            "requests": self.requests.as_slice(),
-            "sinks": self.sinks.as_slice(),
-            "tokens": self.tokens.as_slice(),
-            "unsent": self.unsent.as_slice(),
-            "views": self.views.as_slice()
+            "items": &self.items,
+            "queues": &self.queues,
+            "records": &self.records,
+            "requests": &self.requests,
+            "sinks": &self.sinks,
+            "tokens": &self.tokens,
+            "unsent": &self.unsent,
+            "views": &self.views
         }
         .send(out, names)
     }

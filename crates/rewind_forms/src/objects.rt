@@ -1,14 +1,14 @@
 //! A step as the object of its command line.
-ghost use Rattle.std.specs.Prelude.{◌≡◌, OnOk};
+ghost use Rattle.std.specs.Prelude.{◌≡◌, OnOk, map};
 ghost use Rattle.serde_json.specs.Events.{SendsValue};
-ghost use Rattle.nd_state_json.specs.StateText.{time_data, point_data};
-ghost use Rattle.rewind_forms.specs.NoFloats.{no_float-next, no_float-point, no_float-step, no_float-time};
-ghost use Rattle.rewind_forms.specs.Objects.{next_data, object_of, release_object};
+ghost use Rattle.nd_state_json.specs.StateText.{time_data, point_data, row, whole};
+ghost use Rattle.rewind_forms.specs.NoFloats.{no_float-next, no_float-point, no_float-row, no_float-step, no_float-time, no_float-whole};
+ghost use Rattle.rewind_forms.specs.Objects.{next_data, broadcast_object, object_of, release_object};
 
 use crate::object;
-use crate::shown::{Names, Place, Shown};
+use crate::shown::{Names, Place, Shown, send_list};
 use nd_paths::Pointstamp;
-use nd_protocol::{Next, Part, Step, Times};
+use nd_protocol::{Next, Part, Points, Step, Times, Values};
 use nd_state_json::send_time;
 use nd_time::Timestamp;
 use serde::Serializer;
@@ -32,6 +32,28 @@ impl Shown for Pointstamp {
 
     fn send<S: Serializer, N: Names>(&self, out: &mut S, names: &N) -> Result<(), S::Error> {
         (Place(self.location), &self.time).send(out, names)
+    }
+}
+
+/// Values that are fed, in their order.
+impl Shown for Values {
+    ghost shown = { λ g values. row (map whole values) };
+
+    ghost exact = { λ g values. no_float-row whole values no_float-whole };
+
+    fn send<S: Serializer, N: Names>(&self, out: &mut S, names: &N) -> Result<(), S::Error> {
+        send_list(out, names, self.as_slice())
+    }
+}
+
+/// Pointstamps of a part, as they were given.
+impl Shown for Points {
+    ghost shown = { λ g points. row (map (point_data g) points) };
+
+    ghost exact = { λ g points. no_float-row (point_data g) points (no_float-point g) };
+
+    fn send<S: Serializer, N: Names>(&self, out: &mut S, names: &N) -> Result<(), S::Error> {
+        send_list(out, names, self.as_slice())
     }
 }
 
@@ -62,7 +84,6 @@ impl Shown for Step {
     fn send<S: Serializer, N: Names>(&self, out: &mut S, names: &N) -> Result<(), S::Error> {
         match self {
             Step::Feed { p, vertex, values, next } => {
-                let values = values.as_slice();
                 object! {"do": "feed", "next": *next, "p": *p, "values": values, "vertex": Place(*vertex)}
                     .send(out, names)
             }
@@ -75,12 +96,7 @@ impl Shown for Step {
                     .send(out, names)
             }
             Step::Release { p, vertex, times } => send_release(out, names, *p, *vertex, times.get()),
-            Step::Broadcast { p, part: Part::All } => {
-                object! {"do": "broadcast", "p": *p}.send(out, names)
-            }
-            Step::Broadcast { p, part: Part::Points(points) } => {
-                object! {"do": "broadcast", "p": *p, "part": points.as_slice()}.send(out, names)
-            }
+            Step::Broadcast { p, part } => send_broadcast(out, names, *p, part),
             Step::Receive { from, to } => {
                 object! {"do": "receive", "from": *from, "to": *to}.send(out, names)
             }
@@ -105,5 +121,23 @@ fn send_release<S: Serializer, N: Names>(
         None => object! {"do": "release", "p": p, "time": time, "vertex": vertex}.send(out, names),
         Some(to) => object! {"do": "release", "p": p, "time": time, "to": to, "vertex": vertex}
             .send(out, names),
+    }
+}
+
+// Sends the object of a broadcast, of all that is unsent or of a part.
+fn send_broadcast<S: Serializer, N: Names>(
+    out: &mut S,
+    names: &N,
+    p: u32,
+    part: &Part,
+) -> Result<(), S::Error>
+    ensures { OnOk result (SendsValue (broadcast_object (N.graph names.now) p part.now)
+        (S.written out.old) (S.written out.new)) }
+{
+    match part {
+        Part::All => object! {"do": "broadcast", "p": p}.send(out, names),
+        Part::Points(points) => {
+            object! {"do": "broadcast", "p": p, "part": points}.send(out, names)
+        }
     }
 }

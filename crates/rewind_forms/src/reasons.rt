@@ -7,25 +7,26 @@ ghost use Rattle.rewind_forms.specs.Reasons.{held_data, reason_data, unheard_dat
 
 use crate::object;
 use crate::shown::{Names, Place, Shown};
+use nd_paths::Pointstamp;
 use nd_why::{Held, Reason, Unheard};
 use serde::Serializer;
 
-// All that is held at a pointstamp of a location.
+// All that is held at a pointstamp.
 #[derive(Drop)]
 struct HeldAt<'a> {
-    location: usize,
+    point: &'a Pointstamp,
     held: &'a [Held],
 }
 
 impl<'a> Shown for HeldAt<'a> {
-    ghost shown = { λ g h. row (map (held_data g h.location) h.held.now) };
+    ghost shown = { λ g h. row (map (held_data g h.point.now.location) h.held.now) };
 
-    ghost exact = { λ g h. no_float-row (held_data g h.location) h.held.now (no_float-held g h.location) };
+    ghost exact = { λ g h. no_float-row (held_data g h.point.now.location) h.held.now (no_float-held g h.point.now.location) };
 
     fn send<S: Serializer, N: Names>(&self, out: &mut S, names: &N) -> Result<(), S::Error> {
         out.begin_seq(Some(self.held.len()))?;
         for held in self.held {
-            send_held(out, names, self.location, held)?;
+            send_held(out, names, self.point.location, held)?;
         }
         out.end_seq()
     }
@@ -74,12 +75,12 @@ impl Shown for Reason {
     ghost exact = { no_float-reason };
 
     fn send<S: Serializer, N: Names>(&self, out: &mut S, names: &N) -> Result<(), S::Error> {
-        let point = self.point();
+        let (point, unheard) = (self.point(), self.unheard());
         let held = HeldAt {
-            location: point.location,
+            point,
             held: self.held(),
         };
-        object! {"held": held, "point": point, "unheard": self.unheard(), "view": self.view()}
+        object! {"held": held, "point": point, "unheard": unheard, "view": self.view()}
             .send(out, names)
     }
 }

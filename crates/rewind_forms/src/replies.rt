@@ -1,7 +1,8 @@
 //! The replies to commands, and the errors.
 ghost use Rattle.std.specs.Prelude.{◌≡◌, Some, IfOk, refl};
+ghost use Rattle.serde_json.specs.Written.{compact_text};
 ghost use Rattle.rewind_forms.specs.NoFloats.{no_float-refused, no_float-reply, no_float-step_refused, no_float-stop};
-ghost use Rattle.rewind_forms.specs.Replies.{fault, refused, reply_data, step_refused, stop, line_fault as line_fault_data, TellsOne};
+ghost use Rattle.rewind_forms.specs.Replies.{fault, refused, reply_data, step_refused, stop, faulty as faulty_data, line_fault as line_fault_data, TellsOne};
 
 use crate::shown::{Names, NoNames, Shown};
 use crate::written::text_of;
@@ -96,6 +97,14 @@ impl Shown for Reply {
     }
 }
 
+// Returns the text of an error of the line with this number.
+fn faulty(alloc: Global, code: Code, line: u64) -> Result<Vec<u8>, AllocError>
+    ensures reply { IfOk result (λ t. t.items ≡ compact_text (faulty_data code line)) }
+{
+    let reply = object! {"code": code.number(), "error": code.name(), "line": line};
+    text_of(alloc, &NoNames, &reply)
+}
+
 /// Returns the text of the reply to a faulty line. Its number is counted from 1.
 ///
 /// Out of memory has no reply: it is returned as the error.
@@ -103,13 +112,8 @@ pub fn line_fault(alloc: Global, fault: LineFault, line: u64) -> Result<Vec<u8>,
     ensures reply { IfOk result (λ t.
         TellsOne (λ reply. Some reply ≡ line_fault_data fault line) t.items) }
 {
-    let code = fault.code();
     match fault {
         LineFault::Memory => Err(AllocError),
-        _ => text_of(
-            alloc,
-            &NoNames,
-            &object! {"code": code.number(), "error": code.name(), "line": line},
-        ),
+        other => faulty(alloc, other.code(), line),
     }
 }

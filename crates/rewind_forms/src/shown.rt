@@ -10,6 +10,7 @@ ghost use Rattle.rewind_forms.specs.NoFloats.{no_float-row, no_float-whole, no_f
 
 use nd_graph::Graph;
 use serde::Serializer;
+use std::alloc::Allocator;
 
 /// What has the names of locations: a graph, or nothing yet.
 pub trait Names {
@@ -163,6 +164,16 @@ impl<'a, T: Shown> Shown for &'a [T] {
 
     fn send<S: Serializer, N: Names>(&self, out: &mut S, names: &N) -> Result<(), S::Error> {
         send_list(out, names, self)
+    }
+}
+
+impl<T: Shown, A: Allocator> Shown for Vec<T, A> {
+    ghost shown = { λ g items. row (map (T.shown g) items.items) };
+
+    ghost exact = { λ g items. no_float-row (T.shown g) items.items (T.exact g) };
+
+    fn send<S: Serializer, N: Names>(&self, out: &mut S, names: &N) -> Result<(), S::Error> {
+        send_list(out, names, self.as_slice())
     }
 }
 
