@@ -4,6 +4,7 @@ use Rattle.std.specs.Option.{option_to_list}
 use Rattle.std.specs.declared.alloc.AllocError.{AllocError}
 use Rattle.std.specs.declared.alloc.Global.{Global}
 use Rattle.serde_json.specs.Data.{Data}
+use Rattle.serde_json.specs.Written.{compact_text}
 use Rattle.rewind_lines.specs.Lines.{too_long, no_json}
 use Rattle.nd_timeline.specs.Timeline.{TimelineValue, cluster_of}
 use Rattle.nd_timeline.specs.declared.command.Command.{Command}
@@ -21,6 +22,11 @@ use Rattle.rewind_answers.specs.declared.stage.Answer.{Answer}
 use Rattle.rewind_answers.specs.declared.stage.Stage.{Stage}
 use Rattle.rewind_answers.specs.declared.stage.Stage.TheVariants.{Unopened, Unstarted, Running}
 use Rattle.rewind_answers.proofs.AnswerLaws.{asked_replies, fault_replies}
+
+-- the text of a reply that may be given
+pub tells : (P : Data → Type 0) (d : Data) (t : Result (Vec ℕ Global) AllocError) → IfOk t (λ b. b.items ≡ compact_text d) → P d → IfOk t (λ b. TellsOne P b.items)
+tells P d (Ok b) text may = (d, may, text)
+tells P d (Err e) text may = text
 
 -- ---- queries
 
@@ -55,9 +61,9 @@ later_fault script m n d e (Err x) is h = h
 
 -- ---- lines that are no JSON value
 
-tells : (P Q : List Data → Type 0) (t : Option (Vec ℕ Global)) → ((vs : List Data) → P vs → Q vs) → Tells P t → Tells Q t
-tells P Q None means h = means [] h
-tells P Q (Some text) means h = (h.0, means (h.0 ∷ []) h.1, h.2)
+retold : (P Q : List Data → Type 0) (t : Option (Vec ℕ Global)) → ((vs : List Data) → P vs → Q vs) → Tells P t → Tells Q t
+retold P Q None means h = means [] h
+retold P Q (Some text) means h = (h.0, means (h.0 ∷ []) h.1, h.2)
 
 long_answer : (s : Stage) (n : ℕ) (vs : List Data) (new : Phase) → vs ≡ option_to_list (line_fault line.LineTooLong n) → new ≡ after_fault (phase_of s) → Answers (phase_of s) n too_long vs new
 long_answer (Unopened processors) n vs new is after = (is, after)
@@ -72,13 +78,13 @@ bad_answer (Running script) n vs new is after = (is, after)
 pub long_line : (s : Stage) (n : ℕ) (r : Result Answer AllocError) → IfOk r (λ a. Tells (λ vs. vs ≡ option_to_list (line_fault line.LineTooLong n)) a.reply)
     → IfOk r (λ a. phase_after a.is_last s ≡ after_fault (phase_of s)) → IfOk r (λ a. Tells (λ vs. Answers (phase_of s) n too_long vs (phase_after a.is_last s)) a.reply)
 long_line s n (Ok a) h after =
-    tells (λ vs. vs ≡ option_to_list (line_fault line.LineTooLong n)) (λ vs. Answers (phase_of s) n too_long vs (phase_after a.is_last s)) a.reply
+    retold (λ vs. vs ≡ option_to_list (line_fault line.LineTooLong n)) (λ vs. Answers (phase_of s) n too_long vs (phase_after a.is_last s)) a.reply
     (λ vs is. long_answer s n vs (phase_after a.is_last s) is after) h
 long_line s n (Err e) h after = h
 
 pub bad_line : (s : Stage) (n : ℕ) (r : Result Answer AllocError) → IfOk r (λ a. Tells (λ vs. vs ≡ option_to_list (line_fault line.BadLine n)) a.reply)
     → IfOk r (λ a. phase_after a.is_last s ≡ after_fault (phase_of s)) → IfOk r (λ a. Tells (λ vs. Answers (phase_of s) n no_json vs (phase_after a.is_last s)) a.reply)
 bad_line s n (Ok a) h after =
-    tells (λ vs. vs ≡ option_to_list (line_fault line.BadLine n)) (λ vs. Answers (phase_of s) n no_json vs (phase_after a.is_last s)) a.reply
+    retold (λ vs. vs ≡ option_to_list (line_fault line.BadLine n)) (λ vs. Answers (phase_of s) n no_json vs (phase_after a.is_last s)) a.reply
     (λ vs is. bad_answer s n vs (phase_after a.is_last s) is after) h
 bad_line s n (Err e) h after = h

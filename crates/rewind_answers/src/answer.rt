@@ -68,6 +68,7 @@ fn most_processors(version: Version) -> u8
 }
 
 /// Starts a cluster on a graph.
+#[tactic(auto, using(crate::proofs::TextLaws::tells))]
 fn start_on(
     alloc: Global,
     version: Version,
@@ -105,6 +106,7 @@ fn start_on(
 }
 
 /// Answers the graph's line in a script of this version, and starts a `State` if the graph is accepted.
+#[tactic(auto, using(crate::proofs::TextLaws::tells))]
 pub fn answer_first(
     alloc: Global,
     version: Version,
@@ -131,6 +133,7 @@ pub fn cluster(state: &State) -> &Cluster
 }
 
 // Answers and logs a command, and replies.
+#[tactic(auto, using(crate::proofs::TextLaws::tells))]
 fn answer_do(alloc: Global, state: &mut State, command: Command) -> Result<Vec<u8>, AllocError>
     ensures reply { IfOk result (λ t. TellsOne
         (λ v. CommandReply (logged state.old) command v (logged state.new)) t.items) }
