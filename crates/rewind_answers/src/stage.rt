@@ -11,7 +11,7 @@ ghost use Rattle.rewind_answers.specs.Stages.{Tells, phase_of, phase_after};
 
 use crate::answer::{answer_first, answer_later};
 use nd_session::State;
-use rewind_forms::{LineFault, NoNames, Version, line_fault, object, text_of, version_of};
+use rewind_forms::{LineFault, Version, line_fault, version_of, version_reply};
 use rewind_lines::Reading;
 use serde_json::Value;
 use std::alloc::{AllocError, Global};
@@ -106,7 +106,7 @@ fn answer_opening(
     let Some(version) = version_of(value) else {
         return answer_graph(alloc, stage, Version::First, processors, value);
     };
-    let text = text_of(alloc, &NoNames, &object! {"ok": true, "version": version.number()})?;
+    let text = version_reply(alloc, version)?;
     *stage = Stage::Unstarted(version, processors);
     Ok(goes_on(text))
 }

@@ -11,7 +11,7 @@ ghost use Rattle.rewind_clients.specs.Told.{client_fault, entry_data, faults_dat
 use crate::gather::{flush, put};
 use nd_graph::Graph;
 use nd_session::{Receipt, SessionFault};
-use rewind_forms::{NoNames, Version, object, text_of as reply_text};
+use rewind_forms::{NoNames, Version, object, text_of as reply_text, version_reply};
 use rewind_lines::{DebugFault, Outbox, Sink};
 use std::alloc::{AllocError, Global};
 
@@ -146,7 +146,7 @@ fn put_version<T: Sink>(
     let Some(version) = opened else {
         return Ok(());
     };
-    let text = reply_text(alloc, &NoNames, &object! {"ok": true, "version": version.number()})?;
+    let text = version_reply(alloc, version)?;
     put(outbox, sink, text)?;
     Ok(())
 }

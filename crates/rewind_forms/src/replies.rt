@@ -2,11 +2,12 @@
 ghost use Rattle.std.specs.Prelude.{◌≡◌, Some, IfOk, refl};
 ghost use Rattle.serde_json.specs.Written.{compact_text};
 ghost use Rattle.rewind_forms.specs.NoFloats.{no_float-refused, no_float-reply, no_float-step_refused, no_float-stop};
-ghost use Rattle.rewind_forms.specs.Replies.{fault, refused, reply_data, step_refused, stop, faulty as faulty_data, line_fault as line_fault_data, TellsOne};
+ghost use Rattle.rewind_forms.specs.Replies.{fault, refused, reply_data, step_refused, stop, faulty as faulty_data, line_fault as line_fault_data, version as version_data, TellsOne};
+ghost use Rattle.rewind_forms.specs.Versions.{number_of};
 
 use crate::shown::{Names, NoNames, Shown};
 use crate::written::text_of;
-use crate::{LineFault, object};
+use crate::{LineFault, Version, object};
 use nd_protocol::Refusal;
 use nd_time::Code;
 use nd_timeline::{Fault, Reply, Stop};
@@ -103,6 +104,14 @@ fn faulty(alloc: Global, code: Code, line: u64) -> Result<Vec<u8>, AllocError>
 {
     let reply = object! {"code": code.number(), "error": code.name(), "line": line};
     text_of(alloc, &NoNames, &reply)
+}
+
+/// Returns the text of the reply to the line that names the script's version.
+pub fn version_reply(alloc: Global, version: Version) -> Result<Vec<u8>, AllocError>
+    ensures reply { IfOk result (λ t.
+        t.items ≡ compact_text (version_data (number_of version))) }
+{
+    text_of(alloc, &NoNames, &object! {"ok": true, "version": version.number()})
 }
 
 /// Returns the text of the reply to a faulty line. Its number is counted from 1.
