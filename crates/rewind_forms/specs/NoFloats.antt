@@ -22,6 +22,9 @@ use Rattle.nd_protocol.specs.declared.step.Next.{Next as Afterwards}
 use Rattle.nd_protocol.specs.declared.step.Next.TheVariants as token
 use Rattle.nd_state_json.specs.StateText.{row, natural, whole, time_data, point_data, entry_data, entries_data, item_data, record_data, sink_data, token_data, processor_data, queue_data, queues_data, state_data}
 use Rattle.rewind_forms.specs.Objects.{object_of, broadcast_object, next_data, release_object}
+use Rattle.rewind_forms.specs.Errors.{error_data}
+use Rattle.rewind_forms.specs.declared.replies.ErrorReply.{ErrorReply}
+use Rattle.rewind_forms.specs.declared.replies.ErrorReply.TheVariants as error
 use Rattle.rewind_forms.specs.Replies.{step_refused, refused, stop, reply_data}
 use Rattle.rewind_forms.specs.Effects.{or_null, item_altered, record_altered, request_altered, sink_altered, token_altered, entry_altered, queue_altered, effect_data}
 use Rattle.rewind_forms.specs.Reasons.{held_data, unheard_data, reason_data}
@@ -129,6 +132,11 @@ no_float-state s =
 pub no_float-or_null : {A : Type 0} (f : A → Data) (o : Option A) → ((x : A) → has_float (f x) ≡ false) → has_float (or_null (option_map f o)) ≡ false
 no_float-or_null f None h = refl
 no_float-or_null f (Some x) h = h x
+
+pub no_float-error : (e : ErrorReply) → has_float (error_data e) ≡ false
+no_float-error (error.Plain code) = refl
+no_float-error (error.Line code n) = refl
+no_float-error (error.Location code name) = refl
 
 pub no_float-step_refused : (g : Dataflow) (r : Refusal) → has_float (step_refused g r) ≡ false
 no_float-step_refused g (why.NotYet blocker) = rw (no_float-point g blocker) refl

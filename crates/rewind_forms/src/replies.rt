@@ -1,7 +1,8 @@
 //! The replies to commands, and the errors.
 ghost use Rattle.std.specs.Prelude.{◌≡◌, Some, IfOk, refl};
 ghost use Rattle.serde_json.specs.Written.{compact_text};
-ghost use Rattle.rewind_forms.specs.NoFloats.{no_float-refused, no_float-reply, no_float-step_refused, no_float-stop};
+ghost use Rattle.rewind_forms.specs.Errors.{error_data};
+ghost use Rattle.rewind_forms.specs.NoFloats.{no_float-error, no_float-refused, no_float-reply, no_float-step_refused, no_float-stop};
 ghost use Rattle.rewind_forms.specs.Replies.{fault, refused, reply_data, step_refused, stop, faulty as faulty_data, line_fault as line_fault_data, version as version_data, TellsOne};
 ghost use Rattle.rewind_forms.specs.Versions.{number_of};
 
@@ -22,6 +23,37 @@ impl Shown for Code {
 
     fn send<S: Serializer, N: Names>(&self, out: &mut S, names: &N) -> Result<(), S::Error> {
         object! {"code": self.number(), "error": self.name()}.send(out, names)
+    }
+}
+
+/// The reply that ends a script before its first command: an error, and where it is.
+#[derive(Drop)]
+pub enum ErrorReply {
+    Plain(Code),
+    /// At the line of this number.
+    Line(Code, u64),
+    /// At the location of this name.
+    Location(Code, String),
+}
+
+impl Shown for ErrorReply {
+    ghost shown = { λ g e. error_data e };
+
+    ghost exact = { λ g e. no_float-error e };
+
+    fn send<S: Serializer, N: Names>(&self, out: &mut S, names: &N) -> Result<(), S::Error> {
+        match self {
+            ErrorReply::Plain(code) => code.send(out, names),
+            ErrorReply::Line(code, line) => {
+                object! {"code": code.number(), "error": code.name(), "line": *line}
+                    .send(out, names)
+            }
+            ErrorReply::Location(code, name) => {
+                let name = name.as_str();
+                object! {"code": code.number(), "error": code.name(), "location": name}
+                    .send(out, names)
+            }
+        }
     }
 }
 
