@@ -9,7 +9,6 @@ use rewind_forms::{NoNames, object, text_of};
 use std::alloc::{AllocError, Global};
 
 /// Replies with the steps that a run could try, and why each refused step is refused.
-#[tactic(auto, using(crate::proofs::TextLaws::tells))]
 pub(crate) fn answer_candidates(alloc: Global, cluster: &Cluster) -> Result<Vec<u8>, AllocError>
     ensures reply { IfOk result (λ t. TellsOne (CandidatesReply cluster.now) t.items) }
 {
@@ -25,7 +24,6 @@ pub(crate) fn answer_candidates(alloc: Global, cluster: &Cluster) -> Result<Vec<
 }
 
 /// Replies with the times that can still arrive at a location, according to a processor's view.
-#[tactic(auto, using(crate::proofs::TextLaws::tells))]
 pub(crate) fn answer_frontier_at(
     alloc: Global,
     cluster: &Cluster,

@@ -15,7 +15,7 @@ use nd_cluster::{Cluster, StartFault};
 use nd_graph::{Graph, GraphDraft, GraphFault};
 use nd_session::State;
 use nd_timeline::{Command, Timeline};
-use rewind_forms::{Asked, NoNames, Version, asked_of, line_fault, object, text_of};
+use rewind_forms::{Asked, ErrorReply, NoNames, Version, asked_of, line_fault, text_of};
 use serde_json::Value;
 use std::alloc::{AllocError, Global};
 use std::thread::Threads;
@@ -67,59 +67,67 @@ fn most_processors(version: Version) -> u8
     }
 }
 
+/// What the graph's line gives: a `State`, or the reply to a graph that is refused.
+#[derive(Drop)]
+pub enum First {
+    Started(Started),
+    Refused(ErrorReply),
+}
+
+/// A `State` at its start, and the numbers of the graph's locations and of the processors.
+#[derive(Drop)]
+pub struct Started {
+    pub locations: usize,
+    pub processors: u8,
+    pub state: State,
+}
+
 /// Starts a cluster on a graph.
-#[tactic(auto, using(crate::proofs::TextLaws::tells))]
 fn start_on(
     alloc: Global,
     version: Version,
     processors: u8,
     graph: Graph,
-) -> Result<(Vec<u8>, Option<State>), AllocError>
-    ensures replies { IfOk result (λ r.
-        TellsOne (λ v. Starts version processors (Ok graph) v r.1) r.0.items) }
+) -> Result<First, AllocError>
+    ensures replies { IfOk result (λ r. Starts version processors (Ok graph) r) }
 {
     if processors > most_processors(version) {
-        return Ok((text_of(alloc, &NoNames, &StartFault::BadCount.code())?, None));
+        return Ok(First::Refused(ErrorReply::Plain(StartFault::BadCount.code())));
     }
     let names = graph.copy(alloc)?;
     match Cluster::start(alloc, graph, u32::from(processors)) {
         Ok(cluster) => {
-            let locations = names.location_count();
-            let processors = u32::from(processors);
-            let reply = object! {"locations": locations, "ok": true, "processors": processors};
-            let text = text_of(alloc, &NoNames, &reply)?;
             let timeline = Timeline::new(alloc, cluster)?;
             let state = State::new(alloc, timeline)?;
-            Ok((text, Some(state)))
+            let locations = names.location_count();
+            Ok(First::Started(Started { locations, processors, state }))
         }
         Err(StartFault::BadCount) => {
-            Ok((text_of(alloc, &NoNames, &StartFault::BadCount.code())?, None))
+            Ok(First::Refused(ErrorReply::Plain(StartFault::BadCount.code())))
         }
         Err(StartFault::LoopNotStrict { location }) => {
             let fault = StartFault::LoopNotStrict { location };
-            let (code, name) = (fault.code(), names.location_name(location));
-            let reply = object! {"code": code.number(), "error": code.name(), "location": name};
-            Ok((text_of(alloc, &NoNames, &reply)?, None))
+            let name = String::from_str(alloc, names.location_name(location))?;
+            Ok(First::Refused(ErrorReply::Location(fault.code(), name)))
         }
         Err(StartFault::Memory) => Err(AllocError),
     }
 }
 
-/// Answers the graph's line in a script of this version, and starts a `State` if the graph is accepted.
-#[tactic(auto, using(crate::proofs::TextLaws::tells))]
+/// Reads the graph's line in a script of this version, and starts a `State` if the graph is accepted.
 pub fn answer_first(
     alloc: Global,
     version: Version,
     processors: u8,
     value: &Value,
-) -> Result<(Vec<u8>, Option<State>), AllocError>
-    ensures replies { IfOk result (λ r. TellsOne
-        (λ v. Starts version processors (graph_in version (view value.now)) v r.1) r.0.items) }
+) -> Result<First, AllocError>
+    ensures replies { IfOk result (λ r.
+        Starts version processors (graph_in version (view value.now)) r) }
 {
     let graph = match graph_of(alloc, version, value) {
         Ok(graph) => graph,
         Err(GraphFault::Memory) => return Err(AllocError),
-        Err(fault) => return Ok((text_of(alloc, &NoNames, &fault.code())?, None)),
+        Err(fault) => return Ok(First::Refused(ErrorReply::Plain(fault.code()))),
     };
     start_on(alloc, version, processors, graph)
 }
@@ -133,7 +141,6 @@ pub fn cluster(state: &State) -> &Cluster
 }
 
 // Answers and logs a command, and replies.
-#[tactic(auto, using(crate::proofs::TextLaws::tells))]
 fn answer_do(alloc: Global, state: &mut State, command: Command) -> Result<Vec<u8>, AllocError>
     ensures reply { IfOk result (λ t. TellsOne
         (λ v. CommandReply (logged state.old) command v (logged state.new)) t.items) }

@@ -12,7 +12,6 @@ use rewind_forms::{KeptSteps, NoNames, object, text_of};
 use std::alloc::{AllocError, Global};
 
 /// Replies with all kept steps, and the cursor. The reply is made as text.
-#[tactic(auto, using(crate::proofs::TextLaws::tells))]
 pub(crate) fn answer_export(alloc: Global, timeline: &Timeline) -> Result<Vec<u8>, AllocError>
     ensures reply { IfOk result (λ t. TellsOne (ExportReply timeline.now) t.items) }
 {
@@ -29,7 +28,6 @@ fn no_such_point(alloc: Global) -> Result<Vec<u8>, AllocError>
 }
 
 /// Replies with the kept step that leads to a position.
-#[tactic(auto, using(crate::proofs::TextLaws::tells))]
 pub(crate) fn answer_step(alloc: Global, timeline: &Timeline, to: u64) -> Result<Vec<u8>, AllocError>
     ensures reply { IfOk result (λ t. TellsOne (StepReply timeline.now to) t.items) }
 {
@@ -43,7 +41,6 @@ pub(crate) fn answer_step(alloc: Global, timeline: &Timeline, to: u64) -> Result
 }
 
 // Replies to a query for an effect that cannot be answered. Running out of memory has no reply.
-#[tactic(auto, using(crate::proofs::TextLaws::tells))]
 fn refuse_effect(alloc: Global, fault: EffectFault) -> Result<Vec<u8>, AllocError>
     ensures reply { IfOk result (λ t. TellsOne (λ v. Some v ≡ effect_fault fault) t.items) }
 {
@@ -54,7 +51,6 @@ fn refuse_effect(alloc: Global, fault: EffectFault) -> Result<Vec<u8>, AllocErro
 }
 
 /// Replies with the kept step that leads to a position, and what it changed.
-#[tactic(auto, using(crate::proofs::TextLaws::tells))]
 pub(crate) fn answer_effect(alloc: Global, timeline: &Timeline, to: u64) -> Result<Vec<u8>, AllocError>
     ensures reply { IfOk result (λ t. TellsOne (EffectReply timeline.now to) t.items) }
 {

@@ -27,7 +27,6 @@ pub(crate) fn no_processor(alloc: Global) -> Result<Vec<u8>, AllocError>
 }
 
 // Replies with the state of a cluster.
-#[tactic(auto, using(crate::proofs::TextLaws::tells))]
 fn answer_state(alloc: Global, cluster: &Cluster) -> Result<Vec<u8>, AllocError>
     ensures reply { IfOk result (λ t. TellsOne (λ v. v ≡ state_reply (state_data cluster.now)) t.items) }
 {
@@ -35,7 +34,6 @@ fn answer_state(alloc: Global, cluster: &Cluster) -> Result<Vec<u8>, AllocError>
 }
 
 // Replies with the true count of a pointstamp.
-#[tactic(auto, using(crate::proofs::TextLaws::tells))]
 fn answer_count(alloc: Global, cluster: &Cluster, point: &Pointstamp) -> Result<Vec<u8>, AllocError>
     requires { IsSettled cluster.now }
     ensures reply { IfOk result (λ t.
@@ -48,7 +46,6 @@ fn answer_count(alloc: Global, cluster: &Cluster, point: &Pointstamp) -> Result<
 }
 
 // Replies whether one pointstamp could result in another.
-#[tactic(auto, using(crate::proofs::TextLaws::tells))]
 fn answer_before(
     alloc: Global,
     cluster: &Cluster,
@@ -63,7 +60,6 @@ fn answer_before(
 }
 
 // Replies with the view of a processor, made as text.
-#[tactic(auto, using(crate::proofs::TextLaws::tells))]
 fn answer_view(alloc: Global, cluster: &Cluster, q: u32) -> Result<Vec<u8>, AllocError>
     ensures reply { IfOk result (λ t. TellsOne (ViewReply cluster.now q) t.items) }
 {
@@ -79,7 +75,6 @@ fn answer_view(alloc: Global, cluster: &Cluster, q: u32) -> Result<Vec<u8>, Allo
 }
 
 // Replies with the frontier of a processor's view, made as text.
-#[tactic(auto, using(crate::proofs::TextLaws::tells))]
 fn answer_frontier(alloc: Global, cluster: &Cluster, q: u32) -> Result<Vec<u8>, AllocError>
     ensures reply { IfOk result (λ t. TellsOne (FrontierReply cluster.now q) t.items) }
 {
@@ -96,7 +91,6 @@ fn answer_frontier(alloc: Global, cluster: &Cluster, q: u32) -> Result<Vec<u8>, 
 }
 
 // Replies whether a processor's view has passed a pointstamp.
-#[tactic(auto, using(crate::proofs::TextLaws::tells))]
 fn answer_passed(
     alloc: Global,
     cluster: &Cluster,
@@ -120,7 +114,6 @@ fn answer_passed(
 }
 
 // Replies to a search that cannot be answered. Running out of memory outside the workers' walks has no reply.
-#[tactic(auto, using(crate::proofs::TextLaws::tells))]
 fn refuse_search(alloc: Global, fault: &SearchFault) -> Result<Vec<u8>, AllocError>
     ensures reply { IfOk result (λ t. TellsOne (λ v. Some v ≡ search_fault fault.now) t.items) }
 {
@@ -136,7 +129,6 @@ fn refuse_search(alloc: Global, fault: &SearchFault) -> Result<Vec<u8>, AllocErr
 }
 
 // Replies with the least position at which a condition holds. No kept step is copied for it.
-#[tactic(auto, using(crate::proofs::TextLaws::tells))]
 fn answer_search<R: Threads + Sync>(
     rt: &R,
     alloc: Global,

@@ -9,9 +9,9 @@ ghost use Rattle.rewind_answers.specs.Answers.{graph_of, StartReplies, OpeningRe
 ghost use Rattle.rewind_forms.specs.Versions.{version_of as version_in};
 ghost use Rattle.rewind_answers.specs.Stages.{Tells, phase_of, phase_after};
 
-use crate::answer::{answer_first, answer_later};
+use crate::answer::{First, Started, answer_first, answer_later};
 use nd_session::State;
-use rewind_forms::{LineFault, Version, line_fault, version_of, version_reply};
+use rewind_forms::{LineFault, NoNames, Version, graph_reply, line_fault, text_of, version_of, version_reply};
 use rewind_lines::Reading;
 use serde_json::Value;
 use std::alloc::{AllocError, Global};
@@ -79,13 +79,13 @@ fn answer_graph(
         (λ replies. StartReplies version processors (graph_of version (view value.now))
         replies (phase_after a.is_last stage.new)) a.reply) }
 {
-    let (text, started) = answer_first(alloc, version, processors, value)?;
-    match started {
-        None => Ok(Answer {
-            reply: Some(text),
+    match answer_first(alloc, version, processors, value)? {
+        First::Refused(error) => Ok(Answer {
+            reply: Some(text_of(alloc, &NoNames, &error)?),
             is_last: true,
         }),
-        Some(state) => {
+        First::Started(Started { locations, processors, state }) => {
+            let text = graph_reply(alloc, locations, processors)?;
             *stage = Stage::Running(Script { version, state });
             Ok(goes_on(text))
         }

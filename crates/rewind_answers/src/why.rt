@@ -12,7 +12,6 @@ use rewind_forms::{NoNames, Turns, ViewChanges, object, text_of};
 use std::alloc::{AllocError, Global};
 
 /// Replies with the reasons why a processor does not consider a pointstamp finished, and whether it is finished.
-#[tactic(auto, using(crate::proofs::TextLaws::tells))]
 pub(crate) fn answer_why(
     alloc: Global,
     cluster: &Cluster,
@@ -37,7 +36,6 @@ pub(crate) fn answer_why(
 
 /// Replies with the reasons why a processor does not consider everything strictly before a pointstamp finished, and whether it is
 /// finished.
-#[tactic(auto, using(crate::proofs::TextLaws::tells))]
 pub(crate) fn answer_why_before(
     alloc: Global,
     cluster: &Cluster,
@@ -61,7 +59,6 @@ pub(crate) fn answer_why_before(
 }
 
 // Replies to a query for changes that cannot be answered. Running out of memory has no reply.
-#[tactic(auto, using(crate::proofs::TextLaws::tells))]
 fn refuse_changes(alloc: Global, fault: ChangesFault) -> Result<Vec<u8>, AllocError>
     ensures reply { IfOk result (λ t. TellsOne (λ v. Some v ≡ changes_fault fault) t.items) }
 {
@@ -72,7 +69,6 @@ fn refuse_changes(alloc: Global, fault: ChangesFault) -> Result<Vec<u8>, AllocEr
 }
 
 /// Replies with the positions at which a processor's view of a pointstamp changed.
-#[tactic(auto, using(crate::proofs::TextLaws::tells))]
 pub(crate) fn answer_changes(
     alloc: Global,
     timeline: &Timeline,
@@ -95,7 +91,6 @@ pub(crate) fn answer_changes(
 }
 
 // Replies to a query for turns that cannot be answered. Running out of memory has no reply.
-#[tactic(auto, using(crate::proofs::TextLaws::tells))]
 fn refuse_turns(alloc: Global, fault: TurnsFault) -> Result<Vec<u8>, AllocError>
     ensures reply { IfOk result (λ t. TellsOne (λ v. Some v ≡ turns_fault fault) t.items) }
 {
@@ -106,7 +101,6 @@ fn refuse_turns(alloc: Global, fault: TurnsFault) -> Result<Vec<u8>, AllocError>
 }
 
 /// Replies with the positions at which a condition began or ceased to hold.
-#[tactic(auto, using(crate::proofs::TextLaws::tells))]
 pub(crate) fn answer_turns(
     alloc: Global,
     timeline: &Timeline,

@@ -3,7 +3,7 @@ ghost use Rattle.std.specs.Prelude.{◌≡◌, Some, IfOk, refl};
 ghost use Rattle.serde_json.specs.Written.{compact_text};
 ghost use Rattle.rewind_forms.specs.Errors.{error_data};
 ghost use Rattle.rewind_forms.specs.NoFloats.{no_float-error, no_float-refused, no_float-reply, no_float-step_refused, no_float-stop};
-ghost use Rattle.rewind_forms.specs.Replies.{fault, refused, reply_data, step_refused, stop, faulty as faulty_data, line_fault as line_fault_data, version as version_data, TellsOne};
+ghost use Rattle.rewind_forms.specs.Replies.{fault, refused, reply_data, step_refused, stop, faulty as faulty_data, line_fault as line_fault_data, version as version_data, graph as graph_data, TellsOne};
 ghost use Rattle.rewind_forms.specs.Versions.{number_of};
 
 use crate::shown::{Names, NoNames, Shown};
@@ -128,6 +128,16 @@ impl Shown for Reply {
             Reply::Refused(fault) => fault.send(out, names),
         }
     }
+}
+
+/// Returns the text of the reply to a graph: the number of its locations, and of the processors.
+pub fn graph_reply(alloc: Global, locations: usize, processors: u8) -> Result<Vec<u8>, AllocError>
+    ensures reply { IfOk result (λ t.
+        t.items ≡ compact_text (graph_data locations processors)) }
+{
+    let processors = u32::from(processors);
+    let reply = object! {"locations": locations, "ok": true, "processors": processors};
+    text_of(alloc, &NoNames, &reply)
 }
 
 // Returns the text of an error of the line with this number.
