@@ -100,7 +100,11 @@ fn start_on(
             let timeline = Timeline::new(alloc, cluster)?;
             let state = State::new(alloc, timeline)?;
             let locations = names.location_count();
-            Ok(First::Started(Started { locations, processors, state }))
+            Ok(First::Started(Started {
+                locations,
+                processors,
+                state,
+            }))
         }
         Err(StartFault::BadCount) => {
             Ok(First::Refused(ErrorReply::Plain(StartFault::BadCount.code())))

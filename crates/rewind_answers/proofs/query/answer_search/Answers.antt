@@ -17,7 +17,7 @@ returns-in-Err g c = record {
   reply = IfOk-weaker c.refuse_search.result _ _ (λ t told. (
     told.0,
     failed_replies (c.args.state.now).machine.timeline c.timeline-timeline.result.now c.args.search.now c.in-Err.fault (Ok told.0)
-    c.timeline-timeline.ensures.value c.in-Err.ensures.fails told.1,
+        c.timeline-timeline.ensures.value c.in-Err.ensures.fails told.1,
     told.2,
   )) c.refuse_search.ensures.reply;
 }
