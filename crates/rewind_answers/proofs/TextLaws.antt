@@ -51,12 +51,12 @@ asked_tell m asked query (Err e) is h = h
 
 pub later_asked : (script : Version) (m : Logged) (n : ℕ) (d : Data) (asked : Asked) (t : Result (Vec ℕ Global) AllocError) (new : Logged) → asked_of script (cluster_of m.machine.timeline).graph d ≡ Ok asked
     → IfOk t (λ b. TellsOne (λ v. AskedReply m asked v new) b.items) → IfOk t (λ b. TellsOne (λ v. LineReplies script m n d (v ∷ []) (running script new)) b.items)
-later_asked script m n d asked (Ok b) new is h = (h.0, asked_replies script m n d asked (Ok h.0) new is h.1, h.2)
+later_asked script m n d asked (Ok b) new is h = (h.0, asked_replies script m n d asked h.0 new is h.1, h.2)
 later_asked script m n d asked (Err e) new is h = h
 
 pub later_fault : (script : Version) (m : Logged) (n : ℕ) (d : Data) (e : LineFault) (t : Result (Vec ℕ Global) AllocError) → (¬ (e ≡ line.Memory) → asked_of script (cluster_of m.machine.timeline).graph d ≡ Err e)
     → IfOk t (λ b. TellsOne (λ v. Some v ≡ line_fault e n) b.items) → IfOk t (λ b. TellsOne (λ v. LineReplies script m n d (v ∷ []) (running script m)) b.items)
-later_fault script m n d e (Ok b) is h = (h.0, fault_replies script m n d e (Ok h.0) is h.1, h.2)
+later_fault script m n d e (Ok b) is h = (h.0, fault_replies script m n d e h.0 is h.1, h.2)
 later_fault script m n d e (Err x) is h = h
 
 -- ---- lines that are no JSON value

@@ -1,5 +1,5 @@
 -- The phases that a run's values stand for.
-use Rattle.std.specs.Prelude.{◌≡◌, Bool, true, false, ℕ, List, [], ◌∷◌, length, Option, Some, None, Result, Vec}
+use Rattle.std.specs.Prelude.{Bool, true, false, ℕ, List, [], ◌∷◌, length, Option, Some, None, Result, Vec}
 use Rattle.serde_json.specs.Data.{Data}
 use Rattle.std.specs.declared.alloc.Global.{Global}
 use Rattle.nd_graph.specs.Graph.{Dataflow}

@@ -20,7 +20,11 @@ pub(crate) fn answer_candidates(alloc: Global, cluster: &Cluster) -> Result<Vec<
         let reply = object! {"candidates": list, "more": true, "ok": true};
         return text_of(alloc, cluster.graph(), &reply);
     }
-    text_of(alloc, cluster.graph(), &object! {"candidates": list, "ok": true})
+    text_of(
+        alloc,
+        cluster.graph(),
+        &object! {"candidates": list, "ok": true},
+    )
 }
 
 /// Replies with the times that can still arrive at a location, according to a processor's view.
@@ -39,5 +43,9 @@ pub(crate) fn answer_frontier_at(
     let Ok(times) = cluster.frontier_at(alloc, q, location) else {
         return Err(AllocError);
     };
-    text_of(alloc, &NoNames, &object! {"ok": true, "times": times.as_slice()})
+    text_of(
+        alloc,
+        &NoNames,
+        &object! {"ok": true, "times": times.as_slice()},
+    )
 }

@@ -28,7 +28,11 @@ fn no_such_point(alloc: Global) -> Result<Vec<u8>, AllocError>
 }
 
 /// Replies with the kept step that leads to a position.
-pub(crate) fn answer_step(alloc: Global, timeline: &Timeline, to: u64) -> Result<Vec<u8>, AllocError>
+pub(crate) fn answer_step(
+    alloc: Global,
+    timeline: &Timeline,
+    to: u64,
+) -> Result<Vec<u8>, AllocError>
     ensures reply { IfOk result (λ t. TellsOne (StepReply timeline.now to) t.items) }
 {
     if to == 0 {
@@ -37,7 +41,11 @@ pub(crate) fn answer_step(alloc: Global, timeline: &Timeline, to: u64) -> Result
     let Some(step) = timeline.step(to - 1) else {
         return no_such_point(alloc);
     };
-    text_of(alloc, timeline.cluster().graph(), &object! {"ok": true, "step": step})
+    text_of(
+        alloc,
+        timeline.cluster().graph(),
+        &object! {"ok": true, "step": step},
+    )
 }
 
 // Replies to a query for an effect that cannot be answered. Running out of memory has no reply.
@@ -51,7 +59,11 @@ fn refuse_effect(alloc: Global, fault: EffectFault) -> Result<Vec<u8>, AllocErro
 }
 
 /// Replies with the kept step that leads to a position, and what it changed.
-pub(crate) fn answer_effect(alloc: Global, timeline: &Timeline, to: u64) -> Result<Vec<u8>, AllocError>
+pub(crate) fn answer_effect(
+    alloc: Global,
+    timeline: &Timeline,
+    to: u64,
+) -> Result<Vec<u8>, AllocError>
     ensures reply { IfOk result (λ t. TellsOne (EffectReply timeline.now to) t.items) }
 {
     match effect(alloc, timeline, to) {

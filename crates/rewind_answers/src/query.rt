@@ -13,8 +13,8 @@ use crate::why::{answer_changes, answer_turns, answer_why, answer_why_before};
 use nd_cluster::Cluster;
 use nd_history::{OpenGate, SearchFault, search_in};
 use nd_paths::Pointstamp;
-use nd_session::State;
 use nd_protocol::Refusal;
+use nd_session::State;
 use rewind_forms::{Counts, Entries, NoNames, Query, Search, object, text_of};
 use std::alloc::{AllocError, Global};
 use std::thread::Threads;
@@ -28,9 +28,14 @@ pub(crate) fn no_processor(alloc: Global) -> Result<Vec<u8>, AllocError>
 
 // Replies with the state of a cluster.
 fn answer_state(alloc: Global, cluster: &Cluster) -> Result<Vec<u8>, AllocError>
-    ensures reply { IfOk result (λ t. TellsOne (λ v. v ≡ state_reply (state_data cluster.now)) t.items) }
+    ensures reply { IfOk result (λ t.
+        TellsOne (λ v. v ≡ state_reply (state_data cluster.now)) t.items) }
 {
-    text_of(alloc, cluster.graph(), &object! {"ok": true, "state": cluster})
+    text_of(
+        alloc,
+        cluster.graph(),
+        &object! {"ok": true, "state": cluster},
+    )
 }
 
 // Replies with the true count of a pointstamp.

@@ -116,7 +116,11 @@ pub(crate) fn answer_turns(
                 let reply = object! {"at_lo": at_lo, "more": true, "ok": true, "turns": turns};
                 return text_of(alloc, &NoNames, &reply);
             }
-            text_of(alloc, &NoNames, &object! {"at_lo": at_lo, "ok": true, "turns": turns})
+            text_of(
+                alloc,
+                &NoNames,
+                &object! {"at_lo": at_lo, "ok": true, "turns": turns},
+            )
         }
         Err(fault) => refuse_turns(alloc, fault),
     }

@@ -18,7 +18,15 @@ impl Shown for Altered<ItemAt, Option<i64>> {
 
     fn send<S: Serializer, N: Names>(&self, out: &mut S, names: &N) -> Result<(), S::Error> {
         let at = &self.key;
-        (self.p, Place(at.vertex), &at.key.time, at.key.item, self.old, self.new).send(out, names)
+        (
+            self.p,
+            Place(at.vertex),
+            &at.key.time,
+            at.key.item,
+            self.old,
+            self.new,
+        )
+            .send(out, names)
     }
 }
 
@@ -39,7 +47,15 @@ impl Shown for Altered<ValueAt, u64> {
 
     fn send<S: Serializer, N: Names>(&self, out: &mut S, names: &N) -> Result<(), S::Error> {
         let (at, value) = (&self.key.point, self.key.value);
-        (self.p, Place(at.location), &at.time, value, self.old, self.new).send(out, names)
+        (
+            self.p,
+            Place(at.location),
+            &at.time,
+            value,
+            self.old,
+            self.new,
+        )
+            .send(out, names)
     }
 }
 
@@ -49,7 +65,14 @@ impl Shown for Altered<Pointstamp, bool> {
     ghost exact = { no_float-request };
 
     fn send<S: Serializer, N: Names>(&self, out: &mut S, names: &N) -> Result<(), S::Error> {
-        (self.p, Place(self.key.location), &self.key.time, self.old, self.new).send(out, names)
+        (
+            self.p,
+            Place(self.key.location),
+            &self.key.time,
+            self.old,
+            self.new,
+        )
+            .send(out, names)
     }
 }
 
@@ -59,7 +82,14 @@ impl Shown for Altered<SinkKey, u64> {
     ghost exact = { no_float-sink };
 
     fn send<S: Serializer, N: Names>(&self, out: &mut S, names: &N) -> Result<(), S::Error> {
-        (self.p, Place(self.key.vertex), self.key.value, self.old, self.new).send(out, names)
+        (
+            self.p,
+            Place(self.key.vertex),
+            self.key.value,
+            self.old,
+            self.new,
+        )
+            .send(out, names)
     }
 }
 
@@ -79,7 +109,14 @@ impl Shown for Altered<Pointstamp, i64> {
     ghost exact = { no_float-entry };
 
     fn send<S: Serializer, N: Names>(&self, out: &mut S, names: &N) -> Result<(), S::Error> {
-        (self.p, Place(self.key.location), &self.key.time, self.old, self.new).send(out, names)
+        (
+            self.p,
+            Place(self.key.location),
+            &self.key.time,
+            self.old,
+            self.new,
+        )
+            .send(out, names)
     }
 }
 

@@ -16,7 +16,7 @@ use nd_state_json::{send_counts, send_entries};
 use nd_timeline::Timeline;
 use serde::Serializer;
 
-/// All kept steps of a timeline, each as the object of its line, with the names of the timeline's graph.
+/// All kept steps of a timeline, each as the object of its line.
 #[derive(Drop)]
 pub struct KeptSteps<'a>(pub &'a Timeline);
 

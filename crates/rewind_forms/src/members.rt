@@ -1,4 +1,4 @@
-//! Objects, member by member, and the macro that writes them.
+//! Objects, member by member, and the macro that makes them.
 ghost use Rattle.std.specs.Prelude.{◌≡◌, false, OnOk, refl};
 ghost use Rattle.nd_graph.specs.Graph.{Dataflow};
 ghost use Rattle.serde_json.specs.Data.{Members as TheMembers, member, no_members, object};
@@ -54,7 +54,7 @@ impl<'k, V: Shown, R: Members> Members for Member<'k, V, R> {
     }
 }
 
-/// An object, and how many members it has.
+/// An object, and how many members it has; `object!` makes it.
 #[derive(Drop)]
 pub struct Object<M: Members> {
     pub count: usize,
@@ -73,7 +73,7 @@ impl<M: Members> Shown for Object<M> {
     }
 }
 
-/// Makes an object from a form written like JSON, its keys in the order in which they are shown.
+/// Makes an `Object` from members that are written as in JSON. They are shown in this order.
 #[macro_export]
 macro_rules! object {
     ($($key:tt : $member:expr),*) => {
@@ -84,13 +84,13 @@ macro_rules! object {
     };
 }
 
-/// One, for each key.
+/// A helper of `object!`: one for each key, so that their sum is the number of members.
 #[macro_export]
 macro_rules! one {
     ($key:tt) => { 1 };
 }
 
-/// Makes the members of an object.
+/// A helper of `object!`: the members from a key on, up to the end of the object.
 #[macro_export]
 macro_rules! members {
     () => { $crate::End };

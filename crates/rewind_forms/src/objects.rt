@@ -73,8 +73,8 @@ impl Shown for Next {
     }
 }
 
-/// The object of the step's line. A location that the graph does not have is shown without a name, and such a
-/// line cannot be read back.
+/// The object of the step's line. A location that the graph does not have is shown without a name,
+/// and such a line cannot be read back.
 impl Shown for Step {
     ghost shown = { object_of };
 
@@ -83,19 +83,52 @@ impl Shown for Step {
     #[tactic(auto, unfolding(crate::specs::Objects::object_of))]
     fn send<S: Serializer, N: Names>(&self, out: &mut S, names: &N) -> Result<(), S::Error> {
         match self {
-            Step::Feed { p, vertex, values, next } => {
-                object! {"do": "feed", "next": *next, "p": *p, "values": values, "vertex": Place(*vertex)}
-                    .send(out, names)
+            Step::Feed {
+                p,
+                vertex,
+                values,
+                next,
+            } => {
+                object! {
+                    "do": "feed",
+                    "next": *next,
+                    "p": *p,
+                    "values": values,
+                    "vertex": Place(*vertex)
+                }
+                .send(out, names)
             }
-            Step::Take { p, edge, time, value } => {
-                object! {"do": "take", "edge": Place(*edge), "p": *p, "time": time, "value": *value}
-                    .send(out, names)
+            Step::Take {
+                p,
+                edge,
+                time,
+                value,
+            } => {
+                object! {
+                    "do": "take",
+                    "edge": Place(*edge),
+                    "p": *p,
+                    "time": time,
+                    "value": *value
+                }
+                .send(out, names)
             }
             Step::Notice { p, vertex, time } => {
-                object! {"do": "notice", "p": *p, "time": time, "vertex": Place(*vertex)}
-                    .send(out, names)
+                object! {
+                    "do": "notice",
+                    "p": *p,
+                    "time": time,
+                    "vertex": Place(*vertex)
+                }
+                .send(out, names)
             }
-            Step::Release { p, vertex, times } => send_release(out, names, *p, *vertex, times.get()),
+            Step::Release { p, vertex, times } => send_release(
+                out,
+                names,
+                *p,
+                *vertex,
+                times.get(),
+            ),
             Step::Broadcast { p, part } => send_broadcast(out, names, *p, part),
             Step::Receive { from, to } => {
                 object! {"do": "receive", "from": *from, "to": *to}.send(out, names)
@@ -119,8 +152,16 @@ fn send_release<S: Serializer, N: Names>(
     let (time, vertex) = (&times.time, Place(vertex));
     match &times.to {
         None => object! {"do": "release", "p": p, "time": time, "vertex": vertex}.send(out, names),
-        Some(to) => object! {"do": "release", "p": p, "time": time, "to": to, "vertex": vertex}
-            .send(out, names),
+        Some(to) => {
+            object! {
+                "do": "release",
+                "p": p,
+                "time": time,
+                "to": to,
+                "vertex": vertex
+            }
+            .send(out, names)
+        }
     }
 }
 

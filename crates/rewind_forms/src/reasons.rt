@@ -21,7 +21,9 @@ struct HeldAt<'a> {
 impl<'a> Shown for HeldAt<'a> {
     ghost shown = { λ g h. row (map (held_data g h.point.now.location) h.held.now) };
 
-    ghost exact = { λ g h. no_float-row (held_data g h.point.now.location) h.held.now (no_float-held g h.point.now.location) };
+    ghost exact = { λ g h.
+        no_float-row (held_data g h.point.now.location) h.held.now
+        (no_float-held g h.point.now.location) };
 
     fn send<S: Serializer, N: Names>(&self, out: &mut S, names: &N) -> Result<(), S::Error> {
         out.begin_seq(Some(self.held.len()))?;
@@ -68,7 +70,8 @@ impl Shown for Unheard {
     }
 }
 
-/// A reason: its pointstamp, all that is held there, the updates of it that were not received, and the view's count.
+/// A reason: its pointstamp, all that is held there, the updates of it that were not received, and
+/// the view's count.
 impl Shown for Reason {
     ghost shown = { reason_data };
 
@@ -80,7 +83,12 @@ impl Shown for Reason {
             point,
             held: self.held(),
         };
-        object! {"held": held, "point": point, "unheard": unheard, "view": self.view()}
-            .send(out, names)
+        object! {
+            "held": held,
+            "point": point,
+            "unheard": unheard,
+            "view": self.view()
+        }
+        .send(out, names)
     }
 }

@@ -63,13 +63,21 @@ impl Shown for ErrorReply {
         match self {
             ErrorReply::Plain(code) => code.send(out, names),
             ErrorReply::Line(code, line) => {
-                object! {"code": code.number(), "error": code.name(), "line": *line}
-                    .send(out, names)
+                object! {
+                    "code": code.number(),
+                    "error": code.name(),
+                    "line": *line
+                }
+                .send(out, names)
             }
             ErrorReply::Location(code, name) => {
                 let name = name.as_str();
-                object! {"code": code.number(), "error": code.name(), "location": name}
-                    .send(out, names)
+                object! {
+                    "code": code.number(),
+                    "error": code.name(),
+                    "location": name
+                }
+                .send(out, names)
             }
         }
     }
@@ -85,8 +93,12 @@ impl Shown for Refusal {
         let code = self.code();
         match self {
             Refusal::NotYet { blocker: point } | Refusal::NotAdmissible { point } => {
-                object! {"code": code.number(), "error": code.name(), "point": point}
-                    .send(out, names)
+                object! {
+                    "code": code.number(),
+                    "error": code.name(),
+                    "point": point
+                }
+                .send(out, names)
             }
             _ => code.send(out, names),
         }
@@ -137,9 +149,20 @@ impl Shown for Reply {
             Reply::Moved { at, kept } => {
                 object! {"at": *at, "kept": *kept, "ok": true}.send(out, names)
             }
-            Reply::Ran { at, kept, ran, stop } => {
-                object! {"at": *at, "kept": *kept, "ok": true, "ran": *ran, "stop": *stop}
-                    .send(out, names)
+            Reply::Ran {
+                at,
+                kept,
+                ran,
+                stop,
+            } => {
+                object! {
+                    "at": *at,
+                    "kept": *kept,
+                    "ok": true,
+                    "ran": *ran,
+                    "stop": *stop
+                }
+                .send(out, names)
             }
             Reply::Set { id } => object! {"id": u32::from(*id), "ok": true}.send(out, names),
             Reply::Cleared => object! {"ok": true}.send(out, names),
@@ -161,7 +184,11 @@ pub fn version_reply(alloc: Global, version: Version) -> Result<Vec<u8>, AllocEr
     ensures reply { IfOk result (λ t.
         t.items ≡ compact_text (version_data (number_of version))) }
 {
-    text_of(alloc, &NoNames, &object! {"ok": true, "version": version.number()})
+    text_of(
+        alloc,
+        &NoNames,
+        &object! {"ok": true, "version": version.number()},
+    )
 }
 
 /// Returns the text of the reply to a faulty line. Its number is counted from 1.

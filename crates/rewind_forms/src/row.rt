@@ -33,7 +33,8 @@ impl<A: Shown, B: Shown, C: Shown> Shown for (A, B, C) {
 }
 
 impl<A: Shown, B: Shown, C: Shown, D: Shown> Shown for (A, B, C, D) {
-    ghost shown = { λ g t. row (A.shown g t.0 ∷ B.shown g t.1 ∷ C.shown g t.2 ∷ D.shown g t.3 ∷ []) };
+    ghost shown = { λ g t.
+        row (A.shown g t.0 ∷ B.shown g t.1 ∷ C.shown g t.2 ∷ D.shown g t.3 ∷ []) };
 
     ghost exact = { λ g t. rw (A.exact g t.0, B.exact g t.1, C.exact g t.2, D.exact g t.3) refl };
 
@@ -48,9 +49,11 @@ impl<A: Shown, B: Shown, C: Shown, D: Shown> Shown for (A, B, C, D) {
 }
 
 impl<A: Shown, B: Shown, C: Shown, D: Shown, E: Shown> Shown for (A, B, C, D, E) {
-    ghost shown = { λ g t. row (A.shown g t.0 ∷ B.shown g t.1 ∷ C.shown g t.2 ∷ D.shown g t.3 ∷ E.shown g t.4 ∷ []) };
+    ghost shown = { λ g t.
+        row (A.shown g t.0 ∷ B.shown g t.1 ∷ C.shown g t.2 ∷ D.shown g t.3 ∷ E.shown g t.4 ∷ []) };
 
-    ghost exact = { λ g t. rw (A.exact g t.0, B.exact g t.1, C.exact g t.2, D.exact g t.3, E.exact g t.4) refl };
+    ghost exact = { λ g t.
+        rw (A.exact g t.0, B.exact g t.1, C.exact g t.2, D.exact g t.3, E.exact g t.4) refl };
 
     fn send<S: Serializer, N: Names>(&self, out: &mut S, names: &N) -> Result<(), S::Error> {
         out.begin_seq(Some(5))?;
@@ -64,9 +67,19 @@ impl<A: Shown, B: Shown, C: Shown, D: Shown, E: Shown> Shown for (A, B, C, D, E)
 }
 
 impl<A: Shown, B: Shown, C: Shown, D: Shown, E: Shown, F: Shown> Shown for (A, B, C, D, E, F) {
-    ghost shown = { λ g t. row (A.shown g t.0 ∷ B.shown g t.1 ∷ C.shown g t.2 ∷ D.shown g t.3 ∷ E.shown g t.4 ∷ F.shown g t.5 ∷ []) };
+    ghost shown = { λ g t.
+        row (A.shown g t.0 ∷ B.shown g t.1 ∷ C.shown g t.2 ∷ D.shown g t.3 ∷ E.shown g t.4
+        ∷ F.shown g t.5 ∷ []) };
 
-    ghost exact = { λ g t. rw (A.exact g t.0, B.exact g t.1, C.exact g t.2, D.exact g t.3, E.exact g t.4, F.exact g t.5) refl };
+    ghost exact = { λ g t.
+        rw (
+          A.exact g t.0,
+          B.exact g t.1,
+          C.exact g t.2,
+          D.exact g t.3,
+          E.exact g t.4,
+          F.exact g t.5,
+        ) refl };
 
     fn send<S: Serializer, N: Names>(&self, out: &mut S, names: &N) -> Result<(), S::Error> {
         out.begin_seq(Some(6))?;

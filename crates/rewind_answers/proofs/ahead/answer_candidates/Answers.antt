@@ -1,4 +1,4 @@
-use Rattle.std.proofs.Common.{◌∙◌, ap, false, sym, true}
+use Rattle.std.proofs.Common.{false, sym, true}
 use Rattle.rewind_forms.specs.Candidates.{candidates_data}
 use Rattle.rewind_forms.specs.Replies.{candidates}
 use Rattle.rewind_answers.proofs.TextLaws.{tells}

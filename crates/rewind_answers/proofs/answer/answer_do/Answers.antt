@@ -1,8 +1,7 @@
-use Rattle.std.proofs.Common.{◌≡◌, ◌≢◌, ◌∙◌, ◌∷◌, [], ap, length-append, refl, rules}
+use Rattle.std.proofs.Common.{◌∙◌, ◌∷◌, [], ap, length-append, rules}
 use Rattle.nd_session.specs.Log.{entry_of}
 use Rattle.rewind_forms.specs.Replies.{fault, reply_data}
 use Rattle.rewind_answers.specs.Answers.{log_full, moved, no_memory}
-use Rattle.rewind_answers.specs.Stages.{logged}
 use Rattle.rewind_answers.proofs.TextLaws.{tells}
 use Rattle.rewind_answers.proofs.answer.answer_do.Goals as goal
 

@@ -1,4 +1,4 @@
-use Rattle.std.proofs.Common.{◌<◌, arith, inl, length, Ok, refl}
+use Rattle.std.proofs.Common.{◌<◌, arith, inl, length, refl}
 use Rattle.nd_state_json.specs.StateText.{entries_data}
 use Rattle.rewind_forms.specs.Replies.{frontier, no_processor}
 use Rattle.rewind_answers.proofs.AnswerLaws.{frontier_replies}
@@ -17,6 +17,6 @@ returns c = record {
       let there : c.args.q < length s.processors = omega (arith, c.n.ensures.value) in
       let shown = entries_data c.graph.result.now c.entries.result.now in
       tells _ (frontier shown) c.text_of.result c.text_of.ensures
-      (frontier_replies s c.args.q c.paths.result.now c.view.result.now.map c.in_ok-first.first shown (Ok (frontier shown)) there
-      c.paths.ensures c.view.ensures.map c.in_ok-first.ensures.value (λ i. entries_data (c.graph.ensures i) (c.entries.ensures.listed i)) refl);
+      (frontier_replies s c.args.q c.paths.result.now c.view.result.now.map c.in_ok-first.first shown there
+      c.paths.ensures c.view.ensures.map c.in_ok-first.ensures.value (λ i. entries_data (c.graph.ensures i) (c.entries.ensures.listed i)));
 }

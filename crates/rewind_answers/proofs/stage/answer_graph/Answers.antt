@@ -1,4 +1,3 @@
-use Rattle.std.proofs.Common.{rules}
 use Rattle.rewind_forms.specs.Replies.{graph}
 use Rattle.rewind_answers.proofs.stage.answer_graph.Goals as goal
 

@@ -12,5 +12,5 @@ returns g c =
     let view = to_z-of_z w64 c.view.result (search rules) ∙ c.view.ensures in
     subst (λ (d : Data). OnOk c.send.result (SendsValue d (g.S.Serializer.written c.args.out.now) (g.S.Serializer.written c.send.new.out)))
     (λ i. reason_members (row (map (held_data graph (c.point-point.ensures i).location) (c.held.ensures i))) (point_data graph (c.point-point.ensures i))
-        (row (map unheard_data (c.unheard-unheard.ensures i))) (whole (view i)))
+    (row (map unheard_data (c.unheard-unheard.ensures i))) (whole (view i)))
     c.send.ensures
