@@ -15,7 +15,9 @@ use nd_cluster::{Cluster, StartFault};
 use nd_graph::{Graph, GraphDraft, GraphFault};
 use nd_session::State;
 use nd_timeline::{Command, Timeline};
-use rewind_forms::{Asked, ErrorReply, GraphReply, NoNames, Version, asked_of, line_fault, text_of};
+use rewind_forms::{
+    Asked, ErrorReply, GraphReply, NoNames, Version, asked_of, line_fault, text_of,
+};
 use serde_json::Value;
 use std::alloc::{AllocError, Global};
 use std::thread::Threads;

@@ -36,7 +36,12 @@ pub fn put_log<T: Sink>(
     ensures failed { T.failed sink.new ≡ is_write_fault result }
 {
     for entry in log {
-        let Receipt { client, number, reply, .. } = entry;
+        let Receipt {
+            client,
+            number,
+            reply,
+            ..
+        } = entry;
         let line = object! {"client": *client, "number": *number, "reply": reply};
         put(alloc, outbox, sink, graph, &line)?;
     }
@@ -96,11 +101,7 @@ pub fn put_faults<T: Sink>(
 }
 
 /// Writes one reply.
-pub fn tell_one<T: Sink, V: Shown>(
-    alloc: Global,
-    sink: &mut T,
-    reply: &V,
-) -> Result<(), DebugFault>
+pub fn tell_one<T: Sink, V: Shown>(alloc: Global, sink: &mut T, reply: &V) -> Result<(), DebugFault>
     requires sound { T.failed sink.old ≡ false }
     ensures ok { OnOk result ((before : List ℕ) → T.contents sink.old ≡ Some before
         → T.contents sink.new ≡ Some (before ++ text_of (V.shown no_graph reply.now ∷ []))) }
