@@ -10,5 +10,5 @@ pub use driver::{INPUT_LIMIT, debug, debug_within};
 pub use nd_history::{Gate, OpenGate};
 pub use options::{WordsFault, options_of};
 pub use rewind_clients::{debug_clients, debug_clients_within};
-pub use rewind_forms::{LineFault, read_step, step_value};
+pub use rewind_forms::{LineFault, read_step};
 pub use rewind_lines::{DebugFault, Options};

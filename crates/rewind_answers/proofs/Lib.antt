@@ -1,4 +1,2 @@
 pub mod AnswerLaws
-pub mod ExplainedLaws
-pub mod AheadLaws
 pub mod TextLaws

@@ -4,11 +4,12 @@ use Rattle.std.specs.Option.{option_to_list}
 use Rattle.std.specs.declared.alloc.AllocError.{AllocError}
 use Rattle.std.specs.declared.alloc.Global.{Global}
 use Rattle.serde_json.specs.Data.{Data}
+use Rattle.serde_json.specs.Written.{compact_text}
 use Rattle.rewind_lines.specs.Lines.{too_long, no_json}
 use Rattle.nd_timeline.specs.Timeline.{TimelineValue, cluster_of}
 use Rattle.nd_timeline.specs.declared.command.Command.{Command}
 use Rattle.rewind_forms.specs.Asked.{asked_of}
-use Rattle.rewind_forms.specs.Replies.{line_fault}
+use Rattle.rewind_forms.specs.Replies.{TellsOne, line_fault}
 use Rattle.rewind_forms.specs.declared.asked.Asked.{Asked}
 use Rattle.rewind_forms.specs.declared.asked.Asked.TheVariants.{Do, Tell}
 use Rattle.rewind_forms.specs.declared.fault.LineFault.{LineFault}
@@ -16,20 +17,16 @@ use Rattle.rewind_forms.specs.declared.fault.LineFault.TheVariants as line
 use Rattle.rewind_forms.specs.declared.queries.Query.{Query}
 use Rattle.rewind_forms.specs.declared.version.Version.{Version}
 use Rattle.rewind_answers.specs.Answers.{Logged, Phase, running, Answers, after_fault, AskedReply, CommandReply, LineReplies, QueryReply}
-use Rattle.rewind_answers.specs.Stages.{Tells, TellsOne, phase_of, phase_after}
+use Rattle.rewind_answers.specs.Stages.{Tells, phase_of, phase_after}
 use Rattle.rewind_answers.specs.declared.stage.Answer.{Answer}
 use Rattle.rewind_answers.specs.declared.stage.Stage.{Stage}
 use Rattle.rewind_answers.specs.declared.stage.Stage.TheVariants.{Unopened, Unstarted, Running}
 use Rattle.rewind_answers.proofs.AnswerLaws.{asked_replies, fault_replies}
 
--- what is written for a reply that may be given
-told : (P : Data → Type 0) (r : Result Data AllocError) (text : List ℕ) → IfOk r P → TellsOne (λ v. r ≡ Ok v) text → TellsOne P text
-told P r text may t = (t.0, subst (λ (x : Result Data AllocError). IfOk x P) t.1 may, t.2)
-
-pub told_replies : (P : Data → Type 0) (r : Result Data AllocError) (t : Result (Vec ℕ Global) AllocError) → IfOk r P → IfOk t (λ x. TellsOne (λ v. r ≡ Ok v) x.items)
-    → IfOk t (λ x. TellsOne P x.items)
-told_replies P r (Ok x) may t = told P r x.items may t
-told_replies P r (Err e) may t = t
+-- the text of a reply that may be given
+pub tells : (P : Data → Type 0) (d : Data) (t : Result (Vec ℕ Global) AllocError) → IfOk t (λ b. b.items ≡ compact_text d) → P d → IfOk t (λ b. TellsOne P b.items)
+tells P d (Ok b) text may = (d, may, text)
+tells P d (Err e) text may = text
 
 -- ---- queries
 
@@ -40,19 +37,12 @@ query_text {X} P m x y query asked (Ok b) same is means h =
     (h.0, subst (λ (q : Query). QueryReply m q h.0) (sym is) (means h.0 (subst (λ (z : X). P z h.0) same h.1)), h.2)
 query_text P m x y query asked (Err e) same is means h = h
 
--- a query whose reply is a value that is written
-pub query_value : {X : Type 0} (P : X → Data → Type 0) (m : TimelineValue Global) (x y : X) (query asked : Query) (r : Result Data AllocError) (t : Result (Vec ℕ Global) AllocError) → x ≡ y → query ≡ asked
-    → ((v : Data) → P y v → QueryReply m asked v) → IfOk r (P x) → IfOk t (λ b. TellsOne (λ v. r ≡ Ok v) b.items) → IfOk t (λ b. TellsOne (QueryReply m query) b.items)
-query_value P m x y query asked r t same is means may h = query_text P m x y query asked t same is means (told_replies (P x) r t may h)
-
 -- ---- later lines
 
-pub asked_do : (m new : Logged) (asked : Asked) (command : Command Global) (r : Result Data AllocError) (t : Result (Vec ℕ Global) AllocError) → asked ≡ Do command
-    → IfOk r (λ v. CommandReply m command v new) → IfOk t (λ b. TellsOne (λ v. r ≡ Ok v) b.items) → IfOk t (λ b. TellsOne (λ v. AskedReply m asked v new) b.items)
-asked_do m new asked command r (Ok b) is may h =
-    let own = told (λ v. CommandReply m command v new) r b.items may h in
-    (own.0, subst (λ (a : Asked). AskedReply m a own.0 new) (sym is) own.1, own.2)
-asked_do m new asked command r (Err e) is may h = h
+pub asked_do : (m new : Logged) (asked : Asked) (command : Command Global) (t : Result (Vec ℕ Global) AllocError) → asked ≡ Do command
+    → IfOk t (λ b. TellsOne (λ v. CommandReply m command v new) b.items) → IfOk t (λ b. TellsOne (λ v. AskedReply m asked v new) b.items)
+asked_do m new asked command (Ok b) is h = (h.0, subst (λ (a : Asked). AskedReply m a h.0 new) (sym is) h.1, h.2)
+asked_do m new asked command (Err e) is h = h
 
 pub asked_tell : (m : Logged) (asked : Asked) (query : Query) (t : Result (Vec ℕ Global) AllocError) → asked ≡ Tell query
     → IfOk t (λ b. TellsOne (QueryReply m.machine.timeline query) b.items) → IfOk t (λ b. TellsOne (λ v. AskedReply m asked v m) b.items)
@@ -61,21 +51,19 @@ asked_tell m asked query (Err e) is h = h
 
 pub later_asked : (script : Version) (m : Logged) (n : ℕ) (d : Data) (asked : Asked) (t : Result (Vec ℕ Global) AllocError) (new : Logged) → asked_of script (cluster_of m.machine.timeline).graph d ≡ Ok asked
     → IfOk t (λ b. TellsOne (λ v. AskedReply m asked v new) b.items) → IfOk t (λ b. TellsOne (λ v. LineReplies script m n d (v ∷ []) (running script new)) b.items)
-later_asked script m n d asked (Ok b) new is h = (h.0, asked_replies script m n d asked (Ok h.0) new is h.1, h.2)
+later_asked script m n d asked (Ok b) new is h = (h.0, asked_replies script m n d asked h.0 new is h.1, h.2)
 later_asked script m n d asked (Err e) new is h = h
 
-pub later_fault : (script : Version) (m : Logged) (n : ℕ) (d : Data) (e : LineFault) (r : Result Data AllocError) (t : Result (Vec ℕ Global) AllocError) → (¬ (e ≡ line.Memory) → asked_of script (cluster_of m.machine.timeline).graph d ≡ Err e)
-    → IfOk r (λ v. Some v ≡ line_fault e n) → IfOk t (λ b. TellsOne (λ v. r ≡ Ok v) b.items) → IfOk t (λ b. TellsOne (λ v. LineReplies script m n d (v ∷ []) (running script m)) b.items)
-later_fault script m n d e r (Ok b) is may h =
-    let own = told (λ v. Some v ≡ line_fault e n) r b.items may h in
-    (own.0, fault_replies script m n d e (Ok own.0) is own.1, own.2)
-later_fault script m n d e r (Err x) is may h = h
+pub later_fault : (script : Version) (m : Logged) (n : ℕ) (d : Data) (e : LineFault) (t : Result (Vec ℕ Global) AllocError) → (¬ (e ≡ line.Memory) → asked_of script (cluster_of m.machine.timeline).graph d ≡ Err e)
+    → IfOk t (λ b. TellsOne (λ v. Some v ≡ line_fault e n) b.items) → IfOk t (λ b. TellsOne (λ v. LineReplies script m n d (v ∷ []) (running script m)) b.items)
+later_fault script m n d e (Ok b) is h = (h.0, fault_replies script m n d e h.0 is h.1, h.2)
+later_fault script m n d e (Err x) is h = h
 
 -- ---- lines that are no JSON value
 
-tells : (P Q : List Data → Type 0) (t : Option (Vec ℕ Global)) → ((vs : List Data) → P vs → Q vs) → Tells P t → Tells Q t
-tells P Q None means h = means [] h
-tells P Q (Some text) means h = (h.0, means (h.0 ∷ []) h.1, h.2)
+retold : (P Q : List Data → Type 0) (t : Option (Vec ℕ Global)) → ((vs : List Data) → P vs → Q vs) → Tells P t → Tells Q t
+retold P Q None means h = means [] h
+retold P Q (Some text) means h = (h.0, means (h.0 ∷ []) h.1, h.2)
 
 long_answer : (s : Stage) (n : ℕ) (vs : List Data) (new : Phase) → vs ≡ option_to_list (line_fault line.LineTooLong n) → new ≡ after_fault (phase_of s) → Answers (phase_of s) n too_long vs new
 long_answer (Unopened processors) n vs new is after = (is, after)
@@ -90,13 +78,13 @@ bad_answer (Running script) n vs new is after = (is, after)
 pub long_line : (s : Stage) (n : ℕ) (r : Result Answer AllocError) → IfOk r (λ a. Tells (λ vs. vs ≡ option_to_list (line_fault line.LineTooLong n)) a.reply)
     → IfOk r (λ a. phase_after a.is_last s ≡ after_fault (phase_of s)) → IfOk r (λ a. Tells (λ vs. Answers (phase_of s) n too_long vs (phase_after a.is_last s)) a.reply)
 long_line s n (Ok a) h after =
-    tells (λ vs. vs ≡ option_to_list (line_fault line.LineTooLong n)) (λ vs. Answers (phase_of s) n too_long vs (phase_after a.is_last s)) a.reply
+    retold (λ vs. vs ≡ option_to_list (line_fault line.LineTooLong n)) (λ vs. Answers (phase_of s) n too_long vs (phase_after a.is_last s)) a.reply
     (λ vs is. long_answer s n vs (phase_after a.is_last s) is after) h
 long_line s n (Err e) h after = h
 
 pub bad_line : (s : Stage) (n : ℕ) (r : Result Answer AllocError) → IfOk r (λ a. Tells (λ vs. vs ≡ option_to_list (line_fault line.BadLine n)) a.reply)
     → IfOk r (λ a. phase_after a.is_last s ≡ after_fault (phase_of s)) → IfOk r (λ a. Tells (λ vs. Answers (phase_of s) n no_json vs (phase_after a.is_last s)) a.reply)
 bad_line s n (Ok a) h after =
-    tells (λ vs. vs ≡ option_to_list (line_fault line.BadLine n)) (λ vs. Answers (phase_of s) n no_json vs (phase_after a.is_last s)) a.reply
+    retold (λ vs. vs ≡ option_to_list (line_fault line.BadLine n)) (λ vs. Answers (phase_of s) n no_json vs (phase_after a.is_last s)) a.reply
     (λ vs is. bad_answer s n vs (phase_after a.is_last s) is after) h
 bad_line s n (Err e) h after = h

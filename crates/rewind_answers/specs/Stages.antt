@@ -1,13 +1,17 @@
 -- The phases that a run's values stand for.
-use Rattle.std.specs.Prelude.{◌≡◌, Bool, true, false, ℕ, List, [], ◌∷◌, length, Option, Some, None, Result, Vec}
+use Rattle.std.specs.Prelude.{Bool, true, false, ℕ, List, [], ◌∷◌, length, Option, Some, None, Result, Vec}
 use Rattle.serde_json.specs.Data.{Data}
-use Rattle.serde_json.specs.Written.{compact_text}
 use Rattle.std.specs.declared.alloc.Global.{Global}
 use Rattle.nd_graph.specs.Graph.{Dataflow}
 use Rattle.nd_graph.specs.declared.fault.GraphFault.{GraphFault}
 use Rattle.nd_session.specs.State.{StateValue}
+use Rattle.rewind_forms.specs.Replies.{TellsOne}
 use Rattle.rewind_forms.specs.declared.version.Version.{Version}
 use Rattle.rewind_answers.specs.Answers.{Logged, Phase, unopened, unstarted, running, refused, StartReplies}
+use Rattle.rewind_forms.specs.Errors.{error_data}
+use Rattle.rewind_forms.specs.Replies.{graph}
+use Rattle.rewind_answers.specs.declared.answer.First.{First}
+use Rattle.rewind_answers.specs.declared.answer.First.TheVariants.{Started, Refused}
 use Rattle.rewind_answers.specs.declared.stage.Script.{Script}
 use Rattle.rewind_answers.specs.declared.stage.Stage.{Stage}
 use Rattle.rewind_answers.specs.declared.stage.Stage.TheVariants.{Unopened, Unstarted, Running}
@@ -25,23 +29,24 @@ phase_of (Unopened processors) = unopened processors
 phase_of (Unstarted v processors) = unstarted v processors
 phase_of (Running script) = phase_in script
 
--- the phase after the graph's line, with a `State` or none
-abbrev pub phase_of_start : Version → Option (StateValue Global) → Phase
-phase_of_start v None = refused
-phase_of_start v (Some state) = running v (logged state)
+-- the reply to the graph's line
+abbrev pub first_data : First → Data
+first_data (Started s) = graph s.reply.locations s.reply.processors
+first_data (Refused e) = error_data e
 
--- the reply to the graph's line, and the `State` with which the script continues, if it does
-abbrev pub Starts : Version → ℕ → Result Dataflow GraphFault → Data → Option (StateValue Global) → Type 0
-Starts v processors graph reply state = StartReplies v processors graph (reply ∷ []) (phase_of_start v state)
+-- the phase after the graph's line
+abbrev pub first_phase : Version → First → Phase
+first_phase v (Started s) = running v (logged s.state)
+first_phase v (Refused e) = refused
+
+-- what the graph's line gives
+abbrev pub Starts : Version → ℕ → Result Dataflow GraphFault → First → Type 0
+Starts v processors graph first = StartReplies v processors graph (first_data first ∷ []) (first_phase v first)
 
 -- the phase after an answer: refused if the answer is the last one
 abbrev pub phase_after : Bool → Stage → Phase
 phase_after true stage = refused
 phase_after false stage = phase_of stage
-
--- the text is that of a reply which may be given
-abbrev pub TellsOne : (Data → Type 0) → List ℕ → Type 0
-TellsOne May text = (reply : Data) × May reply × (text ≡ compact_text reply)
 
 -- the text of an answer, if it has one, is that of replies which may be given: none or one
 abbrev pub Tells : (List Data → Type 0) → Option (Vec ℕ Global) → Type 0

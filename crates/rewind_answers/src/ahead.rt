@@ -1,21 +1,30 @@
 //! The replies that say what a run could try next, and which times can still arrive at a location.
 ghost use Rattle.std.specs.Prelude.{IfOk};
+ghost use Rattle.rewind_forms.specs.Replies.{TellsOne};
 ghost use Rattle.rewind_answers.specs.Ahead.{CandidatesReply, FrontierAtReply};
 
+use crate::query::no_processor;
 use nd_cluster::Cluster;
-use nd_json::Json;
-use rewind_forms::{candidates_value, replies, times_value};
+use rewind_forms::{NoNames, object, text_of};
 use std::alloc::{AllocError, Global};
 
 /// Replies with the steps that a run could try, and why each refused step is refused.
-pub(crate) fn answer_candidates(alloc: Global, cluster: &Cluster) -> Result<Json, AllocError>
-    ensures reply { IfOk result (CandidatesReply cluster.now) }
+pub(crate) fn answer_candidates(alloc: Global, cluster: &Cluster) -> Result<Vec<u8>, AllocError>
+    ensures reply { IfOk result (λ t. TellsOne (CandidatesReply cluster.now) t.items) }
 {
     let Ok(candidates) = cluster.candidates() else {
         return Err(AllocError);
     };
-    let shown = candidates_value(alloc, cluster.graph(), &candidates.list)?;
-    replies::candidates(alloc, shown, candidates.more)
+    let list = candidates.list.as_slice();
+    if candidates.more {
+        let reply = object! {"candidates": list, "more": true, "ok": true};
+        return text_of(alloc, cluster.graph(), &reply);
+    }
+    text_of(
+        alloc,
+        cluster.graph(),
+        &object! {"candidates": list, "ok": true},
+    )
 }
 
 /// Replies with the times that can still arrive at a location, according to a processor's view.
@@ -24,16 +33,19 @@ pub(crate) fn answer_frontier_at(
     cluster: &Cluster,
     q: u32,
     location: usize,
-) -> Result<Json, AllocError>
-    ensures reply { IfOk result (λ v. FrontierAtReply cluster.now q location v) }
+) -> Result<Vec<u8>, AllocError>
+    ensures reply { IfOk result (λ t. TellsOne (FrontierAtReply cluster.now q location) t.items) }
 {
     let q = q as usize;
     if q >= cluster.n() {
-        return replies::no_processor(alloc);
+        return no_processor(alloc);
     }
     let Ok(times) = cluster.frontier_at(alloc, q, location) else {
         return Err(AllocError);
     };
-    let shown = times_value(alloc, times.as_slice())?;
-    replies::times(alloc, shown)
+    text_of(
+        alloc,
+        &NoNames,
+        &object! {"ok": true, "times": times.as_slice()},
+    )
 }

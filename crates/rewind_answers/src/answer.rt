@@ -4,18 +4,20 @@ ghost use Rattle.nd_graph.specs.Fault.{IsUnlessMemory};
 ghost use Rattle.nd_graph.specs.declared.fault.GraphFault.TheVariants.{Shape};
 ghost use Rattle.serde_json.specs.View.{view};
 ghost use Rattle.rewind_answers.specs.Answers.{draft_in, checked_in, graph_of as graph_in, most_processors as most_in, LineReplies, AskedReply, CommandReply};
-ghost use Rattle.rewind_answers.specs.Stages.{Starts, TellsOne, logged, phase_in};
+ghost use Rattle.rewind_forms.specs.Replies.{TellsOne};
+ghost use Rattle.rewind_answers.specs.Stages.{Starts, logged, phase_in};
 ghost use Rattle.nd_protocol.specs.Invariant.{KeepsProtocol};
 ghost use Rattle.nd_timeline.specs.Timeline.{cluster_of};
 
-use crate::query::{answer_query, text_of};
+use crate::query::answer_query;
 use crate::stage::Script;
 use nd_cluster::{Cluster, StartFault};
 use nd_graph::{Graph, GraphDraft, GraphFault};
-use nd_json::Json;
 use nd_session::State;
 use nd_timeline::{Command, Timeline};
-use rewind_forms::{Asked, Version, asked_of, replies};
+use rewind_forms::{
+    Asked, ErrorReply, GraphReply, NoNames, Version, asked_of, line_fault, text_of,
+};
 use serde_json::Value;
 use std::alloc::{AllocError, Global};
 use std::thread::Threads;
@@ -67,54 +69,69 @@ fn most_processors(version: Version) -> u8
     }
 }
 
+/// What the graph's line gives: a `State`, or the reply to a graph that is refused.
+#[derive(Drop)]
+pub enum First {
+    Started(Started),
+    Refused(ErrorReply),
+}
+
+/// A `State` at its start, and the reply to its graph.
+#[derive(Drop)]
+pub struct Started {
+    pub reply: GraphReply,
+    pub state: State,
+}
+
 /// Starts a cluster on a graph.
 fn start_on(
     alloc: Global,
     version: Version,
     processors: u8,
     graph: Graph,
-) -> Result<(Json, Option<State>), AllocError>
-    ensures replies { IfOk result (λ r. Starts version processors (Ok graph) r.0 r.1) }
+) -> Result<First, AllocError>
+    ensures replies { IfOk result (λ r. Starts version processors (Ok graph) r) }
 {
     if processors > most_processors(version) {
-        return Ok((replies::fault(alloc, StartFault::BadCount.code())?, None));
+        return Ok(First::Refused(ErrorReply::Plain(StartFault::BadCount.code())));
     }
     let names = graph.copy(alloc)?;
     match Cluster::start(alloc, graph, u32::from(processors)) {
         Ok(cluster) => {
-            let locations = names.location_count() as u64;
-            let reply = replies::graph(alloc, locations, u64::from(processors))?;
             let timeline = Timeline::new(alloc, cluster)?;
             let state = State::new(alloc, timeline)?;
-            Ok((reply, Some(state)))
+            let reply = GraphReply {
+                locations: names.location_count(),
+                processors,
+            };
+            Ok(First::Started(Started { reply, state }))
         }
         Err(StartFault::BadCount) => {
-            Ok((replies::fault(alloc, StartFault::BadCount.code())?, None))
+            Ok(First::Refused(ErrorReply::Plain(StartFault::BadCount.code())))
         }
         Err(StartFault::LoopNotStrict { location }) => {
             let fault = StartFault::LoopNotStrict { location };
-            let name = names.location_name(location);
-            let reply = replies::location_fault(alloc, fault.code(), name)?;
-            Ok((reply, None))
+            let name = String::from_str(alloc, names.location_name(location))?;
+            Ok(First::Refused(ErrorReply::Location(fault.code(), name)))
         }
         Err(StartFault::Memory) => Err(AllocError),
     }
 }
 
-/// Answers the graph's line in a script of this version, and starts a `State` if the graph is accepted.
+/// Reads the graph's line in a script of this version, and starts a `State` if the graph is accepted.
 pub fn answer_first(
     alloc: Global,
     version: Version,
     processors: u8,
     value: &Value,
-) -> Result<(Json, Option<State>), AllocError>
+) -> Result<First, AllocError>
     ensures replies { IfOk result (λ r.
-        Starts version processors (graph_in version (view value.now)) r.0 r.1) }
+        Starts version processors (graph_in version (view value.now)) r) }
 {
     let graph = match graph_of(alloc, version, value) {
         Ok(graph) => graph,
         Err(GraphFault::Memory) => return Err(AllocError),
-        Err(fault) => return Ok((replies::fault(alloc, fault.code())?, None)),
+        Err(fault) => return Ok(First::Refused(ErrorReply::Plain(fault.code()))),
     };
     start_on(alloc, version, processors, graph)
 }
@@ -128,13 +145,13 @@ pub fn cluster(state: &State) -> &Cluster
 }
 
 // Answers and logs a command, and replies.
-fn answer_do(alloc: Global, state: &mut State, command: Command) -> Result<Json, AllocError>
-    ensures reply { IfOk result (λ v.
-        CommandReply (logged state.old) command v (logged state.new)) }
+fn answer_do(alloc: Global, state: &mut State, command: Command) -> Result<Vec<u8>, AllocError>
+    ensures reply { IfOk result (λ t. TellsOne
+        (λ v. CommandReply (logged state.old) command v (logged state.new)) t.items) }
 {
     match state.answer(ONLY_CLIENT, command) {
-        Ok(reply) => replies::command_reply(alloc, cluster(state).graph(), &reply),
-        Err(fault) => replies::fault(alloc, fault.code()),
+        Ok(reply) => text_of(alloc, cluster(state).graph(), &reply),
+        Err(fault) => text_of(alloc, &NoNames, &fault.code()),
     }
 }
 
@@ -149,7 +166,7 @@ fn answer_asked<R: Threads + Sync>(
         (λ v. AskedReply (logged state.old) asked v (logged state.new)) t.items) }
 {
     match asked {
-        Asked::Do(command) => text_of(alloc, answer_do(alloc, state, command)),
+        Asked::Do(command) => answer_do(alloc, state, command),
         Asked::Tell(query) => answer_query(rt, alloc, state, &query),
     }
 }
@@ -169,7 +186,7 @@ pub fn answer_later<R: Threads + Sync>(
     let graph = cluster(&script.state).graph();
     let asked = match asked_of(alloc, script.version, graph, value) {
         Ok(asked) => asked,
-        Err(fault) => return text_of(alloc, replies::line_fault(alloc, fault, line)),
+        Err(fault) => return line_fault(alloc, fault, line),
     };
     answer_asked(rt, alloc, &mut script.state, asked)
 }

@@ -1,34 +1,39 @@
 //! The replies that list kept steps, and what one of them changed.
 ghost use Rattle.std.specs.Prelude.{◌≡◌, Some, IfOk};
-ghost use Rattle.rewind_forms.specs.Replies.{fault as fault_data};
-ghost use Rattle.rewind_answers.specs.Stages.{TellsOne};
+ghost use Rattle.serde_json.specs.Written.{compact_text};
+ghost use Rattle.rewind_forms.specs.Replies.{TellsOne, fault as fault_data};
 ghost use Rattle.rewind_answers.specs.Explained.{ExportReply, StepReply, EffectReply, effect_fault};
 ghost use Rattle.nd_timeline.specs.Faults.{code_of};
 ghost use Rattle.nd_timeline.specs.declared.fault.Fault.TheVariants.{NoSuchPoint};
 
 use nd_history::{EffectFault, effect};
-use nd_json::Json;
 use nd_timeline::{Fault, Timeline};
-use rewind_forms::{effect_value, replies, step_value, texts};
+use rewind_forms::{KeptSteps, NoNames, object, text_of};
 use std::alloc::{AllocError, Global};
 
 /// Replies with all kept steps, and the cursor. The reply is made as text.
 pub(crate) fn answer_export(alloc: Global, timeline: &Timeline) -> Result<Vec<u8>, AllocError>
     ensures reply { IfOk result (λ t. TellsOne (ExportReply timeline.now) t.items) }
 {
-    texts::exported(alloc, timeline)
+    let reply = object! {"at": timeline.at(), "ok": true, "steps": KeptSteps(timeline)};
+    text_of(alloc, timeline.cluster().graph(), &reply)
 }
 
 // Replies that no kept step leads to a position.
-fn no_such_point(alloc: Global) -> Result<Json, AllocError>
-    ensures reply { IfOk result (λ j. j ≡ fault_data (code_of NoSuchPoint)) }
+fn no_such_point(alloc: Global) -> Result<Vec<u8>, AllocError>
+    ensures reply { IfOk result (λ t.
+        t.items ≡ compact_text (fault_data (code_of NoSuchPoint))) }
 {
-    replies::fault(alloc, Fault::NoSuchPoint.code())
+    text_of(alloc, &NoNames, &Fault::NoSuchPoint.code())
 }
 
 /// Replies with the kept step that leads to a position.
-pub(crate) fn answer_step(alloc: Global, timeline: &Timeline, to: u64) -> Result<Json, AllocError>
-    ensures reply { IfOk result (λ v. StepReply timeline.now to v) }
+pub(crate) fn answer_step(
+    alloc: Global,
+    timeline: &Timeline,
+    to: u64,
+) -> Result<Vec<u8>, AllocError>
+    ensures reply { IfOk result (λ t. TellsOne (StepReply timeline.now to) t.items) }
 {
     if to == 0 {
         return no_such_point(alloc);
@@ -36,30 +41,36 @@ pub(crate) fn answer_step(alloc: Global, timeline: &Timeline, to: u64) -> Result
     let Some(step) = timeline.step(to - 1) else {
         return no_such_point(alloc);
     };
-    let shown = step_value(alloc, timeline.cluster().graph(), step)?;
-    replies::kept_step(alloc, shown)
+    text_of(
+        alloc,
+        timeline.cluster().graph(),
+        &object! {"ok": true, "step": step},
+    )
 }
 
 // Replies to a query for an effect that cannot be answered. Running out of memory has no reply.
-fn refuse_effect(alloc: Global, fault: EffectFault) -> Result<Json, AllocError>
-    ensures reply { IfOk result (λ j. Some j ≡ effect_fault fault) }
+fn refuse_effect(alloc: Global, fault: EffectFault) -> Result<Vec<u8>, AllocError>
+    ensures reply { IfOk result (λ t. TellsOne (λ v. Some v ≡ effect_fault fault) t.items) }
 {
     match fault {
         EffectFault::Memory => Err(AllocError),
-        EffectFault::NoSuchPoint => replies::fault(alloc, fault.code()),
+        EffectFault::NoSuchPoint => text_of(alloc, &NoNames, &fault.code()),
     }
 }
 
 /// Replies with the kept step that leads to a position, and what it changed.
-pub(crate) fn answer_effect(alloc: Global, timeline: &Timeline, to: u64) -> Result<Json, AllocError>
-    ensures reply { IfOk result (λ v. EffectReply timeline.now to v) }
+pub(crate) fn answer_effect(
+    alloc: Global,
+    timeline: &Timeline,
+    to: u64,
+) -> Result<Vec<u8>, AllocError>
+    ensures reply { IfOk result (λ t. TellsOne (EffectReply timeline.now to) t.items) }
 {
     match effect(alloc, timeline, to) {
         Ok(effected) => {
-            let graph = timeline.cluster().graph();
-            let shown = effect_value(alloc, graph, &effected.changed)?;
-            let step = step_value(alloc, graph, &effected.step)?;
-            replies::effect(alloc, shown, step)
+            let (changed, step) = (&effected.changed, &effected.step);
+            let reply = object! {"changed": changed, "ok": true, "step": step};
+            text_of(alloc, timeline.cluster().graph(), &reply)
         }
         Err(fault) => refuse_effect(alloc, fault),
     }

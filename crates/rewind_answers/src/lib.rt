@@ -9,5 +9,5 @@ mod query;
 mod stage;
 mod why;
 
-pub use answer::answer_first;
+pub use answer::{First, Started, answer_first};
 pub use stage::{Answer, Stage, answer_line};

@@ -1,9 +1,10 @@
 //! The replies to queries.
 ghost use Rattle.std.specs.Prelude.{◌≡◌, Some, Ok, IfOk};
+ghost use Rattle.serde_json.specs.Written.{compact_text};
 ghost use Rattle.nd_protocol.specs.Invariant.{IsSettled, KeepsProtocol};
-ghost use Rattle.rewind_forms.specs.Replies.{count as count_data};
+ghost use Rattle.rewind_forms.specs.Replies.{TellsOne, count as count_data, no_processor as no_processor_data, state as state_reply};
+ghost use Rattle.nd_state_json.specs.StateText.{state_data};
 ghost use Rattle.rewind_answers.specs.Answers.{QueryReply, BeforeReply, ViewReply, FrontierReply, PassedReply, SearchReply, search_fault, true_count};
-ghost use Rattle.rewind_answers.specs.Stages.{TellsOne};
 
 use crate::ahead::{answer_candidates, answer_frontier_at};
 use crate::answer::cluster;
@@ -11,31 +12,42 @@ use crate::kept::{answer_effect, answer_export, answer_step};
 use crate::why::{answer_changes, answer_turns, answer_why, answer_why_before};
 use nd_cluster::Cluster;
 use nd_history::{OpenGate, SearchFault, search_in};
-use nd_json::Json;
 use nd_paths::Pointstamp;
+use nd_protocol::Refusal;
 use nd_session::State;
-use nd_state_json::point_value;
-use rewind_forms::{Query, Search, replies, texts};
+use rewind_forms::{Counts, Entries, NoNames, Query, Search, object, text_of};
 use std::alloc::{AllocError, Global};
 use std::thread::Threads;
 
-/// Returns the text of a reply.
-pub(crate) fn text_of(alloc: Global, reply: Result<Json, AllocError>) -> Result<Vec<u8>, AllocError>
-    ensures { IfOk result (λ t. TellsOne (λ value. reply ≡ Ok value) t.items) }
+/// Replies that there is no such processor.
+pub(crate) fn no_processor(alloc: Global) -> Result<Vec<u8>, AllocError>
+    ensures reply { IfOk result (λ t. t.items ≡ compact_text no_processor_data) }
 {
-    let value = reply?;
-    value.to_bytes(alloc)
+    text_of(alloc, &NoNames, &Refusal::NoProcessor)
+}
+
+// Replies with the state of a cluster.
+fn answer_state(alloc: Global, cluster: &Cluster) -> Result<Vec<u8>, AllocError>
+    ensures reply { IfOk result (λ t.
+        TellsOne (λ v. v ≡ state_reply (state_data cluster.now)) t.items) }
+{
+    text_of(
+        alloc,
+        cluster.graph(),
+        &object! {"ok": true, "state": cluster},
+    )
 }
 
 // Replies with the true count of a pointstamp.
-fn answer_count(alloc: Global, cluster: &Cluster, point: &Pointstamp) -> Result<Json, AllocError>
+fn answer_count(alloc: Global, cluster: &Cluster, point: &Pointstamp) -> Result<Vec<u8>, AllocError>
     requires { IsSettled cluster.now }
-    ensures reply { IfOk result (λ j. j ≡ count_data (true_count cluster.now point.now)) }
+    ensures reply { IfOk result (λ t.
+        TellsOne (λ v. v ≡ count_data (true_count cluster.now point.now)) t.items) }
 {
     let Ok(count) = u64::try_from(cluster.count(point)) else {
         unreachable!()
     };
-    replies::count(alloc, count)
+    text_of(alloc, &NoNames, &object! {"count": count, "ok": true})
 }
 
 // Replies whether one pointstamp could result in another.
@@ -44,10 +56,12 @@ fn answer_before(
     cluster: &Cluster,
     from: &Pointstamp,
     to: &Pointstamp,
-) -> Result<Json, AllocError>
-    ensures reply { IfOk result (λ v. BeforeReply cluster.now.graph from.now to.now v) }
+) -> Result<Vec<u8>, AllocError>
+    ensures reply { IfOk result (λ t.
+        TellsOne (BeforeReply cluster.now.graph from.now to.now) t.items) }
 {
-    replies::before(alloc, cluster.paths().before(from, to))
+    let before = cluster.paths().before(from, to);
+    text_of(alloc, &NoNames, &object! {"before": before, "ok": true})
 }
 
 // Replies with the view of a processor, made as text.
@@ -56,9 +70,13 @@ fn answer_view(alloc: Global, cluster: &Cluster, q: u32) -> Result<Vec<u8>, Allo
 {
     let q = q as usize;
     if q >= cluster.n() {
-        return text_of(alloc, replies::no_processor(alloc));
+        return no_processor(alloc);
     }
-    texts::known(alloc, cluster.graph(), cluster.view(q).counts())
+    let view = Counts {
+        graph: cluster.graph(),
+        counts: cluster.view(q).counts(),
+    };
+    text_of(alloc, &NoNames, &object! {"ok": true, "view": view})
 }
 
 // Replies with the frontier of a processor's view, made as text.
@@ -67,10 +85,14 @@ fn answer_frontier(alloc: Global, cluster: &Cluster, q: u32) -> Result<Vec<u8>, 
 {
     let q = q as usize;
     if q >= cluster.n() {
-        return text_of(alloc, replies::no_processor(alloc));
+        return no_processor(alloc);
     }
     let first = cluster.view(q).frontier(alloc, cluster.paths())?;
-    texts::frontier(alloc, cluster.graph(), first.entries())
+    let frontier = Entries {
+        graph: cluster.graph(),
+        entries: first.entries(),
+    };
+    text_of(alloc, &NoNames, &object! {"frontier": frontier, "ok": true})
 }
 
 // Replies whether a processor's view has passed a pointstamp.
@@ -79,33 +101,35 @@ fn answer_passed(
     cluster: &Cluster,
     q: u32,
     point: &Pointstamp,
-) -> Result<Json, AllocError>
+) -> Result<Vec<u8>, AllocError>
     requires { KeepsProtocol cluster.now }
-    ensures reply { IfOk result (λ v. PassedReply cluster.now q point.now v) }
+    ensures reply { IfOk result (λ t. TellsOne (PassedReply cluster.now q point.now) t.items) }
 {
     let q = q as usize;
     if q >= cluster.n() {
-        return replies::no_processor(alloc);
+        return no_processor(alloc);
     }
     match cluster.blocker(q, point) {
-        None => replies::passed(alloc),
+        None => text_of(alloc, &NoNames, &object! {"ok": true, "passed": true}),
         Some(blocker) => {
-            let shown = point_value(alloc, cluster.graph(), &blocker)?;
-            replies::not_passed(alloc, shown)
+            let reply = object! {"ok": true, "passed": false, "point": blocker};
+            text_of(alloc, cluster.graph(), &reply)
         }
     }
 }
 
 // Replies to a search that cannot be answered. Running out of memory outside the workers' walks has no reply.
-fn refuse_search(alloc: Global, fault: &SearchFault) -> Result<Json, AllocError>
-    ensures reply { IfOk result (λ j. Some j ≡ search_fault fault.now) }
+fn refuse_search(alloc: Global, fault: &SearchFault) -> Result<Vec<u8>, AllocError>
+    ensures reply { IfOk result (λ t. TellsOne (λ v. Some v ≡ search_fault fault.now) t.items) }
 {
     match fault {
         SearchFault::Memory => Err(AllocError),
         SearchFault::Missing { piece, claimed: _ } => {
-            replies::piece_fault(alloc, fault.code(), *piece)
+            let code = fault.code();
+            let reply = object! {"code": code.number(), "error": code.name(), "piece": *piece};
+            text_of(alloc, &NoNames, &reply)
         }
-        other => replies::fault(alloc, other.code()),
+        other => text_of(alloc, &NoNames, &other.code()),
     }
 }
 
@@ -115,8 +139,9 @@ fn answer_search<R: Threads + Sync>(
     alloc: Global,
     state: &State,
     search: &Search,
-) -> Result<Json, AllocError>
-    ensures reply { IfOk result (λ v. SearchReply state.now.machine.timeline search.now v) }
+) -> Result<Vec<u8>, AllocError>
+    ensures reply { IfOk result (λ t.
+        TellsOne (SearchReply state.now.machine.timeline search.now) t.items) }
 {
     let timeline = state.timeline();
     let Search {
@@ -126,7 +151,7 @@ fn answer_search<R: Threads + Sync>(
         workers,
     } = search;
     match search_in(rt, alloc, timeline, when, *lo, *hi, *workers, &OpenGate) {
-        Ok(least) => replies::found(alloc, least),
+        Ok(least) => text_of(alloc, &NoNames, &object! {"found": least, "ok": true}),
         Err(fault) => refuse_search(alloc, &fault),
     }
 }
@@ -143,24 +168,21 @@ pub fn answer_query<R: Threads + Sync>(
 {
     let cluster = cluster(state);
     match query {
-        Query::State => texts::state(alloc, cluster),
-        Query::Count(point) => text_of(alloc, answer_count(alloc, cluster, point)),
-        Query::Before(from, to) => text_of(alloc, answer_before(alloc, cluster, from, to)),
+        Query::State => answer_state(alloc, cluster),
+        Query::Count(point) => answer_count(alloc, cluster, point),
+        Query::Before(from, to) => answer_before(alloc, cluster, from, to),
         Query::View(q) => answer_view(alloc, cluster, *q),
         Query::Frontier(q) => answer_frontier(alloc, cluster, *q),
-        Query::Passed(q, point) => text_of(alloc, answer_passed(alloc, cluster, *q, point)),
-        Query::Search(search) => text_of(alloc, answer_search(rt, alloc, state, search)),
+        Query::Passed(q, point) => answer_passed(alloc, cluster, *q, point),
+        Query::Search(search) => answer_search(rt, alloc, state, search),
         Query::Export => answer_export(alloc, state.timeline()),
-        Query::Why(q, point) => text_of(alloc, answer_why(alloc, cluster, *q, point)),
-        Query::Changes(asked) => text_of(alloc, answer_changes(alloc, state.timeline(), asked)),
-        Query::Step(to) => text_of(alloc, answer_step(alloc, state.timeline(), *to)),
-        Query::Candidates => text_of(alloc, answer_candidates(alloc, cluster)),
-        Query::Effect(to) => text_of(alloc, answer_effect(alloc, state.timeline(), *to)),
-        Query::Turns(asked) => text_of(alloc, answer_turns(alloc, state.timeline(), asked)),
-        Query::FrontierAt(q, location) => text_of(
-            alloc,
-            answer_frontier_at(alloc, cluster, *q, *location),
-        ),
-        Query::WhyBefore(q, point) => text_of(alloc, answer_why_before(alloc, cluster, *q, point)),
+        Query::Why(q, point) => answer_why(alloc, cluster, *q, point),
+        Query::Changes(asked) => answer_changes(alloc, state.timeline(), asked),
+        Query::Step(to) => answer_step(alloc, state.timeline(), *to),
+        Query::Candidates => answer_candidates(alloc, cluster),
+        Query::Effect(to) => answer_effect(alloc, state.timeline(), *to),
+        Query::Turns(asked) => answer_turns(alloc, state.timeline(), asked),
+        Query::FrontierAt(q, location) => answer_frontier_at(alloc, cluster, *q, *location),
+        Query::WhyBefore(q, point) => answer_why_before(alloc, cluster, *q, point),
     }
 }

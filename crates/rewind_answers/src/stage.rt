@@ -4,14 +4,14 @@ ghost use Rattle.std.specs.Option.{option_to_list};
 ghost use Rattle.serde_json.specs.View.{view};
 ghost use Rattle.rewind_lines.specs.Lines.{json};
 ghost use Rattle.rewind_lines.specs.Readings.{reading_view};
-ghost use Rattle.rewind_forms.specs.Replies.{line_fault};
+ghost use Rattle.rewind_forms.specs.Replies.{line_fault as line_fault_data};
 ghost use Rattle.rewind_answers.specs.Answers.{graph_of, StartReplies, OpeningReplies, Answers, after_fault};
 ghost use Rattle.rewind_forms.specs.Versions.{version_of as version_in};
 ghost use Rattle.rewind_answers.specs.Stages.{Tells, phase_of, phase_after};
 
-use crate::answer::{answer_first, answer_later};
+use crate::answer::{First, Started, answer_first, answer_later};
 use nd_session::State;
-use rewind_forms::{LineFault, Version, replies, version_of};
+use rewind_forms::{LineFault, NoNames, Version, line_fault, text_of, version_of, version_reply};
 use rewind_lines::Reading;
 use serde_json::Value;
 use std::alloc::{AllocError, Global};
@@ -57,14 +57,12 @@ fn answer_fault(
     line: u64,
 ) -> Result<Answer, AllocError>
     ensures reply { IfOk result (λ a.
-        Tells (λ replies. replies ≡ option_to_list (line_fault fault line)) a.reply) }
+        Tells (λ replies. replies ≡ option_to_list (line_fault_data fault line)) a.reply) }
     ensures after { IfOk result (λ a.
         phase_after a.is_last stage.now ≡ after_fault (phase_of stage.now)) }
 {
-    let reply = replies::line_fault(alloc, fault, line)?;
-    let text = reply.to_bytes(alloc)?;
     Ok(Answer {
-        reply: Some(text),
+        reply: Some(line_fault(alloc, fault, line)?),
         is_last: matches!(stage, Stage::Unopened(_) | Stage::Unstarted(_, _)),
     })
 }
@@ -81,14 +79,13 @@ fn answer_graph(
         (λ replies. StartReplies version processors (graph_of version (view value.now))
         replies (phase_after a.is_last stage.new)) a.reply) }
 {
-    let (reply, started) = answer_first(alloc, version, processors, value)?;
-    let text = reply.to_bytes(alloc)?;
-    match started {
-        None => Ok(Answer {
-            reply: Some(text),
+    match answer_first(alloc, version, processors, value)? {
+        First::Refused(error) => Ok(Answer {
+            reply: Some(text_of(alloc, &NoNames, &error)?),
             is_last: true,
         }),
-        Some(state) => {
+        First::Started(Started { reply, state }) => {
+            let text = text_of(alloc, &NoNames, &reply)?;
             *stage = Stage::Running(Script { version, state });
             Ok(goes_on(text))
         }
@@ -109,8 +106,7 @@ fn answer_opening(
     let Some(version) = version_of(value) else {
         return answer_graph(alloc, stage, Version::First, processors, value);
     };
-    let reply = replies::version(alloc, version.number())?;
-    let text = reply.to_bytes(alloc)?;
+    let text = version_reply(alloc, version)?;
     *stage = Stage::Unstarted(version, processors);
     Ok(goes_on(text))
 }

@@ -1,13 +1,14 @@
 //! The replies that say why a processor does not consider a pointstamp finished, when its view changed, and when a condition turned.
 ghost use Rattle.std.specs.Prelude.{◌≡◌, Some, IfOk};
+ghost use Rattle.rewind_forms.specs.Replies.{TellsOne};
 ghost use Rattle.rewind_answers.specs.Explained.{WhyReply, WhyBeforeReply, ChangesReply, changes_fault, TurnsReply, turns_fault};
 
+use crate::query::no_processor;
 use nd_cluster::Cluster;
 use nd_history::{ChangesFault, TurnsFault, changes, turns};
-use nd_json::{Json, list_of};
 use nd_paths::Pointstamp;
 use nd_timeline::Timeline;
-use rewind_forms::{Turns, ViewChanges, changes_value, reasons_value, replies};
+use rewind_forms::{NoNames, Turns, ViewChanges, object, text_of};
 use std::alloc::{AllocError, Global};
 
 /// Replies with the reasons why a processor does not consider a pointstamp finished, and whether it is finished.
@@ -16,20 +17,21 @@ pub(crate) fn answer_why(
     cluster: &Cluster,
     q: u32,
     point: &Pointstamp,
-) -> Result<Json, AllocError>
-    ensures reply { IfOk result (λ v. WhyReply cluster.now q point.now v) }
+) -> Result<Vec<u8>, AllocError>
+    ensures reply { IfOk result (λ t. TellsOne (WhyReply cluster.now q point.now) t.items) }
 {
     let q = q as usize;
     if q >= cluster.n() {
-        return replies::no_processor(alloc);
+        return no_processor(alloc);
     }
     let Ok(reasons) = cluster.why(alloc, q, point) else {
         return Err(AllocError);
     };
-    let shown = reasons_value(alloc, cluster.graph(), &reasons)?;
     let passed = cluster.passed(q, point);
     let finished = cluster.finished(point);
-    replies::why(alloc, finished, passed, shown)
+    let reasons = reasons.as_slice();
+    let reply = object! {"finished": finished, "ok": true, "passed": passed, "reasons": reasons};
+    text_of(alloc, cluster.graph(), &reply)
 }
 
 /// Replies with the reasons why a processor does not consider everything strictly before a pointstamp finished, and whether it is
@@ -39,29 +41,30 @@ pub(crate) fn answer_why_before(
     cluster: &Cluster,
     q: u32,
     point: &Pointstamp,
-) -> Result<Json, AllocError>
-    ensures reply { IfOk result (λ v. WhyBeforeReply cluster.now q point.now v) }
+) -> Result<Vec<u8>, AllocError>
+    ensures reply { IfOk result (λ t. TellsOne (WhyBeforeReply cluster.now q point.now) t.items) }
 {
     let q = q as usize;
     if q >= cluster.n() {
-        return replies::no_processor(alloc);
+        return no_processor(alloc);
     }
     let Ok(reasons) = cluster.why_before(alloc, q, point) else {
         return Err(AllocError);
     };
-    let shown = reasons_value(alloc, cluster.graph(), &reasons)?;
-    let has_passed = cluster.passed_before(q, point);
-    let is_finished = cluster.finished_before(point);
-    replies::why(alloc, is_finished, has_passed, shown)
+    let passed = cluster.passed_before(q, point);
+    let finished = cluster.finished_before(point);
+    let reasons = reasons.as_slice();
+    let reply = object! {"finished": finished, "ok": true, "passed": passed, "reasons": reasons};
+    text_of(alloc, cluster.graph(), &reply)
 }
 
 // Replies to a query for changes that cannot be answered. Running out of memory has no reply.
-fn refuse_changes(alloc: Global, fault: ChangesFault) -> Result<Json, AllocError>
-    ensures reply { IfOk result (λ j. Some j ≡ changes_fault fault) }
+fn refuse_changes(alloc: Global, fault: ChangesFault) -> Result<Vec<u8>, AllocError>
+    ensures reply { IfOk result (λ t. TellsOne (λ v. Some v ≡ changes_fault fault) t.items) }
 {
     match fault {
         ChangesFault::Memory => Err(AllocError),
-        other => replies::fault(alloc, other.code()),
+        other => text_of(alloc, &NoNames, &other.code()),
     }
 }
 
@@ -70,26 +73,30 @@ pub(crate) fn answer_changes(
     alloc: Global,
     timeline: &Timeline,
     asked: &ViewChanges,
-) -> Result<Json, AllocError>
-    ensures reply { IfOk result (λ v. ChangesReply timeline.now asked.now v) }
+) -> Result<Vec<u8>, AllocError>
+    ensures reply { IfOk result (λ t. TellsOne (ChangesReply timeline.now asked.now) t.items) }
 {
     let ViewChanges { q, point, lo, hi } = asked;
     match changes(alloc, timeline, *q as usize, point, *lo, *hi) {
         Ok(told) => {
-            let shown = changes_value(alloc, &told.changes)?;
-            replies::changed(alloc, shown, told.more)
+            let changes = told.changes.as_slice();
+            if told.more {
+                let reply = object! {"changes": changes, "more": true, "ok": true};
+                return text_of(alloc, &NoNames, &reply);
+            }
+            text_of(alloc, &NoNames, &object! {"changes": changes, "ok": true})
         }
         Err(fault) => refuse_changes(alloc, fault),
     }
 }
 
 // Replies to a query for turns that cannot be answered. Running out of memory has no reply.
-fn refuse_turns(alloc: Global, fault: TurnsFault) -> Result<Json, AllocError>
-    ensures reply { IfOk result (λ j. Some j ≡ turns_fault fault) }
+fn refuse_turns(alloc: Global, fault: TurnsFault) -> Result<Vec<u8>, AllocError>
+    ensures reply { IfOk result (λ t. TellsOne (λ v. Some v ≡ turns_fault fault) t.items) }
 {
     match fault {
         TurnsFault::Memory => Err(AllocError),
-        other => replies::fault(alloc, other.code()),
+        other => text_of(alloc, &NoNames, &other.code()),
     }
 }
 
@@ -98,14 +105,22 @@ pub(crate) fn answer_turns(
     alloc: Global,
     timeline: &Timeline,
     asked: &Turns,
-) -> Result<Json, AllocError>
-    ensures reply { IfOk result (λ v. TurnsReply timeline.now asked.now v) }
+) -> Result<Vec<u8>, AllocError>
+    ensures reply { IfOk result (λ t. TellsOne (TurnsReply timeline.now asked.now) t.items) }
 {
     let Turns { when, lo, hi } = asked;
     match turns(alloc, timeline, when, *lo, *hi) {
         Ok(listed) => {
-            let shown = list_of(alloc, listed.positions.as_slice())?;
-            replies::turns(alloc, listed.at_lo, shown, listed.more)
+            let (at_lo, turns) = (listed.at_lo, listed.positions.as_slice());
+            if listed.more {
+                let reply = object! {"at_lo": at_lo, "more": true, "ok": true, "turns": turns};
+                return text_of(alloc, &NoNames, &reply);
+            }
+            text_of(
+                alloc,
+                &NoNames,
+                &object! {"at_lo": at_lo, "ok": true, "turns": turns},
+            )
         }
         Err(fault) => refuse_turns(alloc, fault),
     }

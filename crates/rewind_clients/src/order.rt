@@ -3,11 +3,11 @@ ghost use Rattle.std.specs.Prelude.{◌≡◌, ◌<◌, IfOk};
 ghost use Rattle.serde_json.specs.View.{view};
 ghost use Rattle.rewind_lines.specs.Readings.{reading_view};
 ghost use Rattle.rewind_forms.specs.Grammar.{form_of};
-ghost use Rattle.rewind_clients.specs.Orders.{among, asks_query, is_query as is_query_in, order_of as order_in_value, order_in as order_in_line, order_fault as order_fault_data, code_of};
+ghost use Rattle.rewind_clients.specs.Orders.{among, asks_query, is_query as is_query_in, order_of as order_in_value, order_in as order_in_line, code_of};
 
 use crate::numbers::without;
 use nd_graph::Graph;
-use nd_json::{Json, reply, whole_at};
+use nd_json::whole_at;
 use nd_time::Code;
 use nd_timeline::Command;
 use rewind_forms::{Asked, Form, LineFault, Version, asked_of};
@@ -44,14 +44,6 @@ impl OrderFault {
             OrderFault::OneClientOnly => Code::new(36, "OneClientOnly"),
         }
     }
-}
-
-/// Returns the reply to a faulty line of this number.
-pub fn order_fault(alloc: Global, fault: OrderFault, line: u64) -> Result<Json, AllocError>
-    ensures reply { IfOk result (λ j. j ≡ order_fault_data fault line) }
-{
-    let code = fault.code();
-    reply!(in alloc; {"code": code.number(), "error": code.name(), "line": line})
 }
 
 // Returns whether the line has the form of a query: from what it asks for or, if it is faulty, from

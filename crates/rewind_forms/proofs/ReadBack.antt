@@ -19,7 +19,7 @@ use Rattle.rewind_forms.specs.Places.{placed, are_known, point_named}
 use Rattle.rewind_forms.specs.Grammar.{steps, form_of}
 use Rattle.rewind_forms.specs.Steps.{epoch_at, next_at, feed_of, take_of, notice_of, release_of, move_of, broadcast_of, part_of, receive_of, read_of}
 use Rattle.rewind_forms.specs.declared.version.Version.TheVariants.{Fifth}
-use Rattle.rewind_forms.specs.Objects.{feed_object, take_object, notice_object, release_object, all_object, part_object, receive_object, object_of}
+use Rattle.rewind_forms.specs.Objects.{feed_object, take_object, notice_object, release_object, broadcast_object, receive_object, object_of}
 use Rattle.nd_protocol.specs.Ranges.{NumbersFit, IsSmall, NextIsSmall, TimeIsSmall, TimesAreSmall}
 use Rattle.rewind_forms.specs.Fitting.{HasDepth, LaterHasDepth, NamesFit}
 use Rattle.rewind_forms.proofs.NamesLemmas.{vertex-name_at, edge-name_at, time-numbers, known, point-name_at}
@@ -31,9 +31,9 @@ receive_back : (from to : ℕ) → IsSmall from → IsSmall to → receive_of (r
 unfolding receive_of
 receive_back from to h k = rw (small-natural from h, small-natural to k) refl
 
-all_back : (p : ℕ) → IsSmall p → broadcast_of (all_object p) ≡ Ok (Broadcast p All)
+all_back : (g : Dataflow) (p : ℕ) → IsSmall p → broadcast_of (broadcast_object g p All) ≡ Ok (Broadcast p All)
 unfolding broadcast_of
-all_back p h = rw (small-natural p h) refl
+all_back g p h = rw (small-natural p h) refl
 
 notice_named : (g : Dataflow) (p vertex : ℕ) (t : Time) → TimeIsSmall t
     → named_at (codes "vertex") (notice_object g p vertex t) ≡ Some (name_at g vertex, t.epoch ∷ t.counters)
@@ -116,7 +116,7 @@ feed_back g p vertex values then once there h k j =
 -- ---- a broadcast of a part
 
 points_named_back : (g : Dataflow) (p : ℕ) (points : List Pointstamp) → Each (λ q. TimeIsSmall q.time) points
-    → points_at (codes "part") (part_object g p points) ≡ Some (map (named g) points)
+    → points_at (codes "part") (broadcast_object g p (Points points)) ≡ Some (map (named g) points)
 unfolding points_at
 points_named_back g p points h =
     rw (list-row (map (point_data g) points)) (every_as listed_point (point_data g) (named g) points (λ k d lt. point-data g _ (h k d lt)))
@@ -129,7 +129,7 @@ all_known g (q ∷ points) once h =
     rw (known g q.location q.time once (All-head P q points h)) (all_known g points once (All-tail P q points h))
 
 part_back : (g : Dataflow) (p : ℕ) (points : List Pointstamp) → has_double (names g) ≡ false → Each (λ q. HasDepth g q.location q.time) points
-    → IsSmall p → Each (λ q. TimeIsSmall q.time) points → part_of g (part_object g p points) ≡ Ok (Broadcast p (Points points))
+    → IsSmall p → Each (λ q. TimeIsSmall q.time) points → part_of g (broadcast_object g p (Points points)) ≡ Ok (Broadcast p (Points points))
 unfolding part_of
 part_back g p points once there h k =
     let read = every_back (point_named g) (named g) points (λ i d lt. point-name_at g _ once (there i d lt)) in
@@ -143,7 +143,7 @@ read_back g (Feed p vertex values then) once there fits = rw (feed_back g p vert
 read_back g (Take p edge t value) once there fits = rw (take_back g p edge t value once there.0 there.1 fits.0 fits.1 fits.2) refl
 read_back g (Notice p vertex t) once there fits = rw (notice_back g p vertex t once there.0 there.1 fits.0 fits.1) refl
 read_back g (Release p vertex times) once there fits = released_back g p vertex times.time times.to once there.0 there.1 there.2 fits.0 fits.1
-read_back g (Broadcast p All) once there fits = rw (all_back p fits.0) refl
+read_back g (Broadcast p All) once there fits = rw (all_back g p fits.0) refl
 read_back g (Broadcast p (Points points)) once there fits = rw (part_back g p points once there fits.0 fits.1) refl
 read_back g (Receive from to) once there fits = rw (receive_back from to fits.0 fits.1) refl
 

@@ -18,3 +18,5 @@ pub mod Changes
 pub mod Candidates
 pub mod Times
 pub mod Effects
+pub mod Errors
+pub mod NoFloats

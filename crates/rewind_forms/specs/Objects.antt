@@ -4,10 +4,10 @@ use Rattle.std.specs.declared.alloc.Global.{Global}
 use Rattle.serde_json.specs.Data.{Data, string, object, no_members, member}
 use Rattle.nd_time.specs.Time.{Time}
 use Rattle.nd_graph.specs.Graph.{Dataflow}
-use Rattle.nd_paths.specs.declared.point.Pointstamp.{Pointstamp}
 use Rattle.nd_state_json.specs.StateText.{row, natural, whole, place, time_data, point_data}
 use Rattle.nd_protocol.specs.declared.step.Step.{Step}
 use Rattle.nd_protocol.specs.declared.step.Step.TheVariants.{Feed, Take, Notice, Release, Broadcast, Receive}
+use Rattle.nd_protocol.specs.declared.part.Part.{Part}
 use Rattle.nd_protocol.specs.declared.part.Part.TheVariants.{All, Points}
 use Rattle.nd_protocol.specs.declared.step.Next.{Next as Afterwards}
 use Rattle.nd_protocol.specs.declared.step.Next.TheVariants as token
@@ -47,13 +47,11 @@ release_object g p vertex time (Some to) = object (member (codes "do") (string (
     (member (codes "p") (natural p) (member (codes "time") (time_data time)
     (member (codes "to") (time_data to) (member (codes "vertex") (place g vertex) no_members)))))
 
--- the broadcast of all that is unsent: {"do":"broadcast","p":n}
-abbrev pub all_object : ℕ → Data
-all_object p = object (member (codes "do") (string (codes "broadcast")) (member (codes "p") (natural p) no_members))
-
--- the broadcast of a part, with its pointstamps as they were given: {"do":"broadcast","p":n,"part":[[name,[epoch,c1,...]],...]}
-abbrev pub part_object : Dataflow → ℕ → List Pointstamp → Data
-part_object g p points = object (member (codes "do") (string (codes "broadcast"))
+-- a broadcast, {"do":"broadcast","p":n}, and "part":[[name,[epoch,c1,...]],...] among the keys if it is of a part, with its
+-- pointstamps as they were given
+abbrev pub broadcast_object : Dataflow → ℕ → Part Global → Data
+broadcast_object g p All = object (member (codes "do") (string (codes "broadcast")) (member (codes "p") (natural p) no_members))
+broadcast_object g p (Points points) = object (member (codes "do") (string (codes "broadcast"))
     (member (codes "p") (natural p) (member (codes "part") (row (map (point_data g) points)) no_members)))
 
 -- {"do":"receive","from":n,"to":n}
@@ -67,6 +65,5 @@ object_of g (Feed p vertex values next) = feed_object g p vertex values next
 object_of g (Take p edge time value) = take_object g p edge time value
 object_of g (Notice p vertex time) = notice_object g p vertex time
 object_of g (Release p vertex times) = release_object g p vertex times.time times.to
-object_of g (Broadcast p All) = all_object p
-object_of g (Broadcast p (Points points)) = part_object g p points
+object_of g (Broadcast p part) = broadcast_object g p part
 object_of g (Receive from to) = receive_object from to

@@ -1,10 +1,12 @@
 -- The replies, as JSON values.
-use Rattle.std.specs.Prelude.{ℕ, Bool, true, false, List, codes, Option, Some, None}
-use Rattle.serde_json.specs.Data.{Data, null, boolean, number, string, object, unsigned, no_members, member}
+use Rattle.std.specs.Prelude.{◌≡◌, ℕ, Bool, true, false, List, codes, Option, Some, None, option_map}
+use Rattle.serde_json.specs.Data.{Data, boolean, number, string, object, unsigned, no_members, member}
 use Rattle.nd_time.specs.Code.{Code}
 use Rattle.nd_graph.specs.Graph.{Dataflow}
 use Rattle.nd_protocol.specs.Refusals.{code_of}
-use Rattle.nd_state_json.specs.StateText.{point_data}
+use Rattle.nd_state_json.specs.StateText.{natural, point_data}
+use Rattle.rewind_forms.specs.Effects.{or_null}
+use Rattle.serde_json.specs.Written.{compact_text}
 use Rattle.nd_protocol.specs.declared.refusal.Refusal.{Refusal}
 use Rattle.nd_protocol.specs.declared.refusal.Refusal.TheVariants.{NoProcessor, NotYet, NotAdmissible}
 use Rattle.nd_timeline.specs.Faults.{code_of as code_of_fault}
@@ -17,6 +19,10 @@ use Rattle.nd_timeline.specs.declared.reply.Reply.TheVariants.{Moved, Ran, Set, 
 use Rattle.rewind_forms.specs.LineFaults.{code_of as code_of_line}
 use Rattle.rewind_forms.specs.declared.fault.LineFault.{LineFault}
 use Rattle.rewind_forms.specs.declared.fault.LineFault.TheVariants as line
+
+-- the text is that of a reply which may be given
+abbrev pub TellsOne : (Data → Type 0) → List ℕ → Type 0
+TellsOne May text = (reply : Data) × May reply × (text ≡ compact_text reply)
 
 -- {"code":n,"error":name}
 abbrev pub fault : Code → Data
@@ -134,14 +140,9 @@ not_passed point = object (member (codes "ok") (boolean true) (member (codes "pa
 abbrev pub no_processor : Data
 no_processor = fault (code_of NoProcessor)
 
--- a position, or null
-abbrev pub position : Option ℕ → Data
-position None = null
-position (Some n) = number (unsigned n)
-
 -- {"found":n or null,"ok":true}
 abbrev pub found : Option ℕ → Data
-found least = object (member (codes "found") (position least) (member (codes "ok") (boolean true) no_members))
+found least = object (member (codes "found") (or_null (option_map natural least)) (member (codes "ok") (boolean true) no_members))
 
 -- {"ok":true,"version":n}
 abbrev pub version : ℕ → Data

@@ -1,201 +1,184 @@
 //! A step as the object of its command line.
-ghost use Rattle.std.specs.Prelude.{◌≡◌, map, Some, None, IfOk};
-ghost use Rattle.nd_state_json.specs.StateText.{row, point_data};
-ghost use Rattle.rewind_forms.specs.Objects.{next_data, feed_object, take_object, notice_object, release_object, all_object, part_object, receive_object, object_of};
+ghost use Rattle.std.specs.Prelude.{◌≡◌, OnOk, map};
+ghost use Rattle.serde_json.specs.Events.{SendsValue};
+ghost use Rattle.nd_state_json.specs.StateText.{time_data, point_data, row, whole};
+ghost use Rattle.rewind_forms.specs.NoFloats.{no_float-next, no_float-point, no_float-row, no_float-step, no_float-time, no_float-whole};
+ghost use Rattle.rewind_forms.specs.Objects.{next_data, broadcast_object, object_of, release_object};
 
-use nd_graph::Graph;
-use nd_json::{Json, JsonList, JsonObject, list_of};
+use crate::object;
+use crate::shown::{Names, Place, Shown, send_list};
 use nd_paths::Pointstamp;
-use nd_protocol::{Next, Part, Step, Times};
-use nd_state_json::{name_value, point_value, time_value};
+use nd_protocol::{Next, Part, Points, Step, Times, Values};
+use nd_state_json::send_time;
 use nd_time::Timestamp;
-use std::alloc::{AllocError, Global};
+use serde::Serializer;
 
-// Returns what becomes of the token after a feed: a word, or the epoch to which it moves.
-fn next_value(alloc: Global, next: Next) -> Result<Json, AllocError>
-    ensures reply { IfOk result (λ j. j ≡ next_data next) }
-{
-    match next {
-        Next::Next => Json::text(alloc, "next"),
-        Next::Close => Json::text(alloc, "close"),
-        Next::Stay => Json::text(alloc, "stay"),
-        Next::To(epoch) => {
-            let object = JsonObject::new(alloc).with("to", Json::natural(u64::from(epoch)))?;
-            Ok(object.into_json())
+/// Its epoch, and then its counters.
+impl Shown for Timestamp {
+    ghost shown = { λ g t. time_data t };
+
+    ghost exact = { λ g t. no_float-time t };
+
+    fn send<S: Serializer, N: Names>(&self, out: &mut S, _names: &N) -> Result<(), S::Error> {
+        send_time(out, self)
+    }
+}
+
+/// The name of its location, and its time.
+impl Shown for Pointstamp {
+    ghost shown = { point_data };
+
+    ghost exact = { no_float-point };
+
+    fn send<S: Serializer, N: Names>(&self, out: &mut S, names: &N) -> Result<(), S::Error> {
+        (Place(self.location), &self.time).send(out, names)
+    }
+}
+
+/// Values that are fed, in their order.
+impl Shown for Values {
+    ghost shown = { λ g values. row (map whole values) };
+
+    ghost exact = { λ g values. no_float-row whole values no_float-whole };
+
+    fn send<S: Serializer, N: Names>(&self, out: &mut S, names: &N) -> Result<(), S::Error> {
+        send_list(out, names, self.as_slice())
+    }
+}
+
+/// Pointstamps of a part, as they were given.
+impl Shown for Points {
+    ghost shown = { λ g points. row (map (point_data g) points) };
+
+    ghost exact = { λ g points. no_float-row (point_data g) points (no_float-point g) };
+
+    fn send<S: Serializer, N: Names>(&self, out: &mut S, names: &N) -> Result<(), S::Error> {
+        send_list(out, names, self.as_slice())
+    }
+}
+
+/// What becomes of the token after a feed: a word, or the epoch to which it moves.
+impl Shown for Next {
+    ghost shown = { λ g next. next_data next };
+
+    ghost exact = { λ g next. no_float-next next };
+
+    fn send<S: Serializer, N: Names>(&self, out: &mut S, names: &N) -> Result<(), S::Error> {
+        match self {
+            Next::Next => out.str("next"),
+            Next::Close => out.str("close"),
+            Next::Stay => out.str("stay"),
+            Next::To(epoch) => object! {"to": *epoch}.send(out, names),
         }
     }
 }
 
-// Returns the pointstamps of a part, as they were given.
-fn points_value(alloc: Global, graph: &Graph, points: &[Pointstamp]) -> Result<Json, AllocError>
-    ensures reply { IfOk result (λ j. j ≡ row (map (point_data graph.now) points.now)) }
-{
-    let mut list = JsonList::new(alloc);
-    for point in points {
-        list.push(point_value(alloc, graph, point)?)?;
-    }
-    Ok(list.into_json())
-}
+/// The object of the step's line. A location that the graph does not have is shown without a name,
+/// and such a line cannot be read back.
+impl Shown for Step {
+    ghost shown = { object_of };
 
-// Builds the objects of steps, with the names of a graph.
-#[derive(Drop)]
-struct Objects<'g> {
-    alloc: Global,
-    graph: &'g Graph,
-}
+    ghost exact = { no_float-step };
 
-impl<'g> Objects<'g> {
-    // Returns the object of a feed: its values, and what becomes of the token.
-    fn feed(&self, p: u32, vertex: usize, values: &[i64], next: Next) -> Result<Json, AllocError>
-        ensures object { IfOk result (λ j.
-            j ≡ feed_object self.now.graph.now p vertex values.now next) }
-    {
-        let alloc = self.alloc;
-        let object = JsonObject::new(alloc)
-            .with("do", Json::text(alloc, "feed")?)?
-            .with("next", next_value(alloc, next)?)?
-            .with("p", Json::natural(u64::from(p)))?
-            .with("values", list_of(alloc, values)?)?
-            .with("vertex", name_value(alloc, self.graph, vertex)?)?;
-        Ok(object.into_json())
-    }
-
-    // Returns the object of a take.
-    fn take(&self, p: u32, edge: usize, time: &Timestamp, value: i64) -> Result<Json, AllocError>
-        ensures object { IfOk result (λ j.
-            j ≡ take_object self.now.graph.now p edge time.now value) }
-    {
-        let alloc = self.alloc;
-        let object = JsonObject::new(alloc)
-            .with("do", Json::text(alloc, "take")?)?
-            .with("edge", name_value(alloc, self.graph, edge)?)?
-            .with("p", Json::natural(u64::from(p)))?
-            .with("time", time_value(alloc, time)?)?
-            .with("value", Json::integer(value))?;
-        Ok(object.into_json())
-    }
-
-    // Returns the object of a notice.
-    fn notice(&self, p: u32, vertex: usize, time: &Timestamp) -> Result<Json, AllocError>
-        ensures object { IfOk result (λ j. j ≡ notice_object self.now.graph.now p vertex time.now) }
-    {
-        let alloc = self.alloc;
-        let object = JsonObject::new(alloc)
-            .with("do", Json::text(alloc, "notice")?)?
-            .with("p", Json::natural(u64::from(p)))?
-            .with("time", time_value(alloc, time)?)?
-            .with("vertex", name_value(alloc, self.graph, vertex)?)?;
-        Ok(object.into_json())
-    }
-
-    // Returns the object of a release, which drops a capability or moves it to a later time.
-    fn release(&self, p: u32, vertex: usize, times: &Times) -> Result<Json, AllocError>
-        ensures object { IfOk result (λ j.
-            j ≡ release_object self.now.graph.now p vertex times.now.time times.now.to) }
-    {
-        let alloc = self.alloc;
-        match &times.to {
-            None => self.dropped(p, vertex, &times.time),
-            Some(to) => self.moved(p, vertex, &times.time, to),
+    #[tactic(auto, unfolding(crate::specs::Objects::object_of))]
+    fn send<S: Serializer, N: Names>(&self, out: &mut S, names: &N) -> Result<(), S::Error> {
+        match self {
+            Step::Feed {
+                p,
+                vertex,
+                values,
+                next,
+            } => {
+                object! {
+                    "do": "feed",
+                    "next": *next,
+                    "p": *p,
+                    "values": values,
+                    "vertex": Place(*vertex)
+                }
+                .send(out, names)
+            }
+            Step::Take {
+                p,
+                edge,
+                time,
+                value,
+            } => {
+                object! {
+                    "do": "take",
+                    "edge": Place(*edge),
+                    "p": *p,
+                    "time": time,
+                    "value": *value
+                }
+                .send(out, names)
+            }
+            Step::Notice { p, vertex, time } => {
+                object! {
+                    "do": "notice",
+                    "p": *p,
+                    "time": time,
+                    "vertex": Place(*vertex)
+                }
+                .send(out, names)
+            }
+            Step::Release { p, vertex, times } => send_release(
+                out,
+                names,
+                *p,
+                *vertex,
+                times.get(),
+            ),
+            Step::Broadcast { p, part } => send_broadcast(out, names, *p, part),
+            Step::Receive { from, to } => {
+                object! {"do": "receive", "from": *from, "to": *to}.send(out, names)
+            }
         }
     }
+}
 
-    // Returns the object of a release that drops a capability.
-    fn dropped(&self, p: u32, vertex: usize, time: &Timestamp) -> Result<Json, AllocError>
-        ensures object { IfOk result (λ j.
-            j ≡ release_object self.now.graph.now p vertex time.now None) }
-    {
-        let alloc = self.alloc;
-        let object = JsonObject::new(alloc)
-            .with("do", Json::text(alloc, "release")?)?
-            .with("p", Json::natural(u64::from(p)))?
-            .with("time", time_value(alloc, time)?)?
-            .with("vertex", name_value(alloc, self.graph, vertex)?)?;
-        Ok(object.into_json())
-    }
-
-    // Returns the object of a release that moves a capability to a later time.
-    fn moved(
-        &self,
-        p: u32,
-        vertex: usize,
-        time: &Timestamp,
-        to: &Timestamp,
-    ) -> Result<Json, AllocError>
-        ensures object { IfOk result (λ j.
-            j ≡ release_object self.now.graph.now p vertex time.now (Some to.now)) }
-    {
-        let alloc = self.alloc;
-        let object = JsonObject::new(alloc)
-            .with("do", Json::text(alloc, "release")?)?
-            .with("p", Json::natural(u64::from(p)))?
-            .with("time", time_value(alloc, time)?)?
-            .with("to", time_value(alloc, to)?)?
-            .with("vertex", name_value(alloc, self.graph, vertex)?)?;
-        Ok(object.into_json())
-    }
-
-    // Returns the object of a broadcast of all that is unsent.
-    fn broadcast(&self, p: u32) -> Result<Json, AllocError>
-        ensures object { IfOk result (λ j. j ≡ all_object p) }
-    {
-        let object = JsonObject::new(self.alloc)
-            .with("do", Json::text(self.alloc, "broadcast")?)?
-            .with("p", Json::natural(u64::from(p)))?;
-        Ok(object.into_json())
-    }
-
-    // Returns the object of a broadcast of what is unsent at some pointstamps.
-    fn part(&self, p: u32, points: &[Pointstamp]) -> Result<Json, AllocError>
-        ensures object { IfOk result (λ j. j ≡ part_object self.now.graph.now p points.now) }
-    {
-        let object = JsonObject::new(self.alloc)
-            .with("do", Json::text(self.alloc, "broadcast")?)?
-            .with("p", Json::natural(u64::from(p)))?
-            .with("part", points_value(self.alloc, self.graph, points)?)?;
-        Ok(object.into_json())
-    }
-
-    // Returns the object of a receive.
-    fn receive(&self, from: u32, to: u32) -> Result<Json, AllocError>
-        ensures object { IfOk result (λ j. j ≡ receive_object from to) }
-    {
-        let object = JsonObject::new(self.alloc)
-            .with("do", Json::text(self.alloc, "receive")?)?
-            .with("from", Json::natural(u64::from(from)))?
-            .with("to", Json::natural(u64::from(to)))?;
-        Ok(object.into_json())
+// Sends the object of a release, which drops a capability or moves it to a later time.
+fn send_release<S: Serializer, N: Names>(
+    out: &mut S,
+    names: &N,
+    p: u32,
+    vertex: usize,
+    times: &Times,
+) -> Result<(), S::Error>
+    ensures { OnOk result (SendsValue
+        (release_object (N.graph names.now) p vertex times.now.time times.now.to)
+        (S.written out.old) (S.written out.new)) }
+{
+    let (time, vertex) = (&times.time, Place(vertex));
+    match &times.to {
+        None => object! {"do": "release", "p": p, "time": time, "vertex": vertex}.send(out, names),
+        Some(to) => {
+            object! {
+                "do": "release",
+                "p": p,
+                "time": time,
+                "to": to,
+                "vertex": vertex
+            }
+            .send(out, names)
+        }
     }
 }
 
-/// Returns the object of a step's command line, with the names of the graph's locations.
-///
-/// A location that the graph does not have is shown without a name, and such a line cannot be read back.
-#[tactic(auto, unfolding(crate::specs::Objects::object_of))]
-pub fn step_value(alloc: Global, graph: &Graph, step: &Step) -> Result<Json, AllocError>
-    ensures object { IfOk result (λ j. j ≡ object_of graph.now step.now) }
+// Sends the object of a broadcast, of all that is unsent or of a part.
+fn send_broadcast<S: Serializer, N: Names>(
+    out: &mut S,
+    names: &N,
+    p: u32,
+    part: &Part,
+) -> Result<(), S::Error>
+    ensures { OnOk result (SendsValue (broadcast_object (N.graph names.now) p part.now)
+        (S.written out.old) (S.written out.new)) }
 {
-    let objects = Objects { alloc, graph };
-    match step {
-        Step::Feed {
-            p,
-            vertex,
-            values,
-            next,
-        } => objects.feed(*p, *vertex, values.as_slice(), *next),
-        Step::Take {
-            p,
-            edge,
-            time,
-            value,
-        } => objects.take(*p, *edge, time, *value),
-        Step::Notice { p, vertex, time } => objects.notice(*p, *vertex, time),
-        Step::Release { p, vertex, times } => objects.release(*p, *vertex, times.get()),
-        Step::Broadcast { p, part: Part::All } => objects.broadcast(*p),
-        Step::Broadcast {
-            p,
-            part: Part::Points(points),
-        } => objects.part(*p, points.as_slice()),
-        Step::Receive { from, to } => objects.receive(*from, *to),
+    match part {
+        Part::All => object! {"do": "broadcast", "p": p}.send(out, names),
+        Part::Points(points) => {
+            object! {"do": "broadcast", "p": p, "part": points}.send(out, names)
+        }
     }
 }

@@ -2,7 +2,7 @@
 
 use crate::runs::{HELD, ONE, run};
 use nd_graph::{Graph, GraphDraft};
-use rewind_forms::{read_step, step_value};
+use rewind_forms::{read_step, text_of};
 use serde_json::Value;
 use std::alloc::{AllocError, Global};
 use std::test::Fail;
@@ -77,7 +77,7 @@ fn read_and_shown(alloc: Global, graph: &str, text: &str) -> Option<Vec<u8>> {
     let draft = GraphDraft::from_value(alloc, &Value::from_str(alloc, graph).ok()?).ok()?;
     let graph: Graph = draft.check(alloc).ok()?;
     let step = read_step(alloc, &graph, &Value::from_str(alloc, text).ok()?).ok()?;
-    step_value(alloc, &graph, &step).ok()?.to_bytes(alloc).ok()
+    text_of(alloc, &graph, &step).ok()
 }
 
 /// Checks what the worked example *export-replays* says about `read_step`, and the same for the steps of version 5: each

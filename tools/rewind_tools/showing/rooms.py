@@ -8,7 +8,7 @@ from rewind_tools.showing.svgs import box, curve, line, moved, picture, text
 
 # What comes of a line, and the crates between each and the next one; docs/ARCHITECTURE.md tells the same in
 # a block of text.
-STAGES = ["bytes", "line", "JSON value", "command", "move", "reply", "reply value", "bytes"]
+STAGES = ["bytes", "line", "JSON value", "command", "move", "reply", "text", "bytes"]
 CRATES = [
     "rewind_lines",
     "rewind_lines",

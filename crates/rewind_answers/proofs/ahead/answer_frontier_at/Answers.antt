@@ -1,13 +1,24 @@
-use Rattle.std.proofs.Common.{◌∙◌, ap, arith}
+use Rattle.std.proofs.Common.{arith, inl, inr, refl}
+use Rattle.rewind_forms.specs.Replies.{no_processor, times}
 use Rattle.rewind_forms.specs.Times.{times_data}
-use Rattle.rewind_answers.proofs.AheadLaws.{times_replies}
+use Rattle.rewind_answers.proofs.TextLaws.{tells}
 use Rattle.rewind_answers.proofs.ahead.answer_frontier_at.Goals as goal
+
+pub returns-then-q-n : goal.returns-then-q-n
+returns-then-q-n c = record {
+  reply = tells _ no_processor c.no_processor.result c.no_processor.ensures.reply (inl (omega (arith, c.n.ensures.value, c.if-q-n.true), refl));
+}
 
 pub returns : goal.returns
 returns c = record {
-  reply = (
-      times_replies c.args.cluster.now c.args.q c.args.location c.in-Ok.times.items c.in_ok-shown.shown c.times.result
-      (omega (arith, c.n.ensures.value)) c.in-Ok.ensures.value c.in-Ok.ensures.exact c.in-Ok.ensures.apart
-      (c.in_ok-shown.ensures.reply ∙ ap times_data c.as_slice.ensures.value) c.times.ensures.reply
-      );
+  reply = tells _ (times (times_data c.as_slice.result.now)) c.text_of.result c.text_of.ensures (inr (
+    omega (arith, c.n.ensures.value, c.if-q-n.false),
+    record {
+      times_there = c.in-Ok.times.items;
+      arrivals = c.in-Ok.ensures.value;
+      exact = c.in-Ok.ensures.exact;
+      apart = c.in-Ok.ensures.apart;
+      told = λ i. times (times_data (c.as_slice.ensures.value i));
+    },
+  ));
 }

@@ -4,8 +4,7 @@ use Rattle.rewind_answers.proofs.answer.answer_asked.Goals as goal
 
 pub returns-in-Do : goal.returns-in-Do
 returns-in-Do g c = record {
-  reply =
-      asked_do (logged c.args.state.now) (logged c.answer_do.new.state) c.args.asked c.in-Do.command c.answer_do.result c.text_of.result c.in-Do.is c.answer_do.ensures.reply c.text_of.ensures;
+  reply = asked_do (logged c.args.state.now) (logged c.answer_do.new.state) c.args.asked c.in-Do.command c.answer_do.result c.in-Do.is c.answer_do.ensures.reply;
 }
 
 pub returns-in-Tell : goal.returns-in-Tell

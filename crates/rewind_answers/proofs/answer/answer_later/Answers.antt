@@ -9,8 +9,8 @@ pub returns-in-Err : goal.returns-in-Err
 returns-in-Err g c = record {
   replies =
       let same = c.graph-graph.ensures ∙ ap (λ s. s.graph) c.cluster.ensures.value in
-      later_fault c.args.script.now.version (logged c.args.script.now.state) c.args.line (view c.args.value.now) c.in-Err.fault c.line_fault.result c.text_of.result
-      (λ some. ap (λ g. asked_of c.args.script.now.version g (view c.args.value.now)) (sym same) ∙ c.in-Err.ensures.err some) c.line_fault.ensures.reply c.text_of.ensures;
+      later_fault c.args.script.now.version (logged c.args.script.now.state) c.args.line (view c.args.value.now) c.in-Err.fault c.line_fault.result
+      (λ some. ap (λ g. asked_of c.args.script.now.version g (view c.args.value.now)) (sym same) ∙ c.in-Err.ensures.err some) c.line_fault.ensures.reply;
 }
 
 pub returns : goal.returns

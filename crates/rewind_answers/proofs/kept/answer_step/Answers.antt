@@ -1,11 +1,28 @@
-use Rattle.std.proofs.Common.{ap, ◌∙◌, arith}
-use Rattle.rewind_answers.proofs.ExplainedLaws.{step_replies}
+use Rattle.std.proofs.Common.{◌∙◌, ap, arith, inl, inr, refl}
+use Rattle.serde_json.specs.Data.{Data}
+use Rattle.nd_graph.specs.Graph.{Dataflow}
+use Rattle.nd_timeline.specs.Faults.{code_of}
+use Rattle.nd_timeline.specs.declared.fault.Fault.TheVariants.{NoSuchPoint}
+use Rattle.rewind_forms.specs.Objects.{object_of}
+use Rattle.rewind_forms.specs.Replies.{fault, kept_step}
+use Rattle.rewind_answers.proofs.TextLaws.{tells}
 use Rattle.rewind_answers.proofs.kept.answer_step.Goals as goal
+
+pub returns-then-to-eq0 : goal.returns-then-to-eq0
+returns-then-to-eq0 c = record {
+  reply = tells _ (fault (code_of NoSuchPoint)) c.no_such_point.result c.no_such_point.ensures.reply (inl (inl c.if-to-eq0.true, refl));
+}
+
+pub returns-in_default : goal.returns-in_default
+returns-in_default c = record {
+  reply = tells _ (fault (code_of NoSuchPoint)) c.no_such_point-in_default.result c.no_such_point-in_default.ensures.reply
+      (inl (inr (omega (arith, c.if-to-eq0.false, c.in_default.ensures.none refl)), refl));
+}
 
 pub returns : goal.returns
 returns c = record {
-  reply = (
-      step_replies c.args.timeline.now c.graph.result.now c.args.to c.in-Some.step.now c.in_ok-shown.shown c.kept_step.result
-      (c.graph.ensures ∙ ap (λ s. s.graph) c.cluster.ensures.value) (omega arith) c.in-Some.ensures.some c.in_ok-shown.ensures.object c.kept_step.ensures.reply
-      );
+  reply =
+      let told : Dataflow → Data = λ g. kept_step (object_of g c.in-Some.step.now) in
+      tells _ (told c.graph.result.now) c.text_of.result c.text_of.ensures
+      (inr (omega arith, (c.in-Some.step.now, c.in-Some.ensures.some, ap told (c.graph.ensures ∙ ap (λ s. s.graph) c.cluster.ensures.value))));
 }

@@ -1,5 +1,4 @@
 use Rattle.std.proofs.Common.{◌≡◌, refl}
-use Rattle.std.proofs.lemmas.Result.{IfOk-weaker}
 use Rattle.nd_state_json.specs.StateText.{state_data}
 use Rattle.nd_timeline.specs.Timeline.{cluster_of}
 use Rattle.rewind_forms.specs.Replies.{count, state}
@@ -7,32 +6,31 @@ use Rattle.rewind_forms.specs.declared.queries.Query.TheVariants.{State, Count, 
 use Rattle.rewind_answers.specs.Ahead.{CandidatesReply, FrontierAtReply}
 use Rattle.rewind_answers.specs.Answers.{BeforeReply, ViewReply, FrontierReply, PassedReply, SearchReply, true_count}
 use Rattle.rewind_answers.specs.Explained.{WhyReply, WhyBeforeReply, ChangesReply, ExportReply, StepReply, EffectReply, TurnsReply}
-use Rattle.rewind_answers.proofs.TextLaws.{query_text, query_value}
+use Rattle.rewind_answers.proofs.TextLaws.{query_text}
 use Rattle.rewind_answers.proofs.query.answer_query.Goals as goal
 
 pub returns-in-State : goal.returns-in-State
 returns-in-State g c = record {
   reply =
       let m = c.args.state.now.machine.timeline in
-      let shown = state (state_data c.cluster-cluster.result.now) in
-      query_text (λ s v. v ≡ state (state_data s)) m c.cluster-cluster.result.now (cluster_of m) c.args.query.now State c.state.result
-      c.cluster-cluster.ensures.value c.in-State.is (λ v h. h) (IfOk-weaker c.state.result _ _ (λ t h. (shown, refl, h)) c.state.ensures.text);
+      query_text (λ s v. v ≡ state (state_data s)) m c.cluster-cluster.result.now (cluster_of m) c.args.query.now State c.answer_state.result
+      c.cluster-cluster.ensures.value c.in-State.is (λ v h. h) c.answer_state.ensures.reply;
 }
 
 pub returns-in-Count : goal.returns-in-Count
 returns-in-Count g c = record {
   reply =
       let m = c.args.state.now.machine.timeline in
-      query_value (λ s v. v ≡ count (true_count s c.in-Count.point)) m c.cluster-cluster.result.now (cluster_of m) c.args.query.now (Count c.in-Count.point) c.answer_count.result c.text_of.result
-      c.cluster-cluster.ensures.value c.in-Count.is (λ v h. h) c.answer_count.ensures.reply c.text_of.ensures;
+      query_text (λ s v. v ≡ count (true_count s c.in-Count.point)) m c.cluster-cluster.result.now (cluster_of m) c.args.query.now (Count c.in-Count.point) c.answer_count.result
+      c.cluster-cluster.ensures.value c.in-Count.is (λ v h. h) c.answer_count.ensures.reply;
 }
 
 pub returns-in-Before : goal.returns-in-Before
 returns-in-Before g c = record {
   reply =
       let m = c.args.state.now.machine.timeline in
-      query_value (λ s v. BeforeReply s.graph c.in-Before.from c.in-Before.to v) m c.cluster-cluster.result.now (cluster_of m) c.args.query.now (Before c.in-Before.from c.in-Before.to) c.answer_before.result c.text_of-in-Before.result
-      c.cluster-cluster.ensures.value c.in-Before.is (λ v h. h) c.answer_before.ensures.reply c.text_of-in-Before.ensures;
+      query_text (λ s v. BeforeReply s.graph c.in-Before.from c.in-Before.to v) m c.cluster-cluster.result.now (cluster_of m) c.args.query.now (Before c.in-Before.from c.in-Before.to) c.answer_before.result
+      c.cluster-cluster.ensures.value c.in-Before.is (λ v h. h) c.answer_before.ensures.reply;
 }
 
 pub returns-in-View : goal.returns-in-View
@@ -53,16 +51,16 @@ pub returns-in-Passed : goal.returns-in-Passed
 returns-in-Passed g c = record {
   reply =
       let m = c.args.state.now.machine.timeline in
-      query_value (λ s v. PassedReply s c.in-Passed.q c.in-Passed.point v) m c.cluster-cluster.result.now (cluster_of m) c.args.query.now (Passed c.in-Passed.q c.in-Passed.point) c.answer_passed.result c.text_of-in-Passed.result
-      c.cluster-cluster.ensures.value c.in-Passed.is (λ v h. h) c.answer_passed.ensures.reply c.text_of-in-Passed.ensures;
+      query_text (λ s v. PassedReply s c.in-Passed.q c.in-Passed.point v) m c.cluster-cluster.result.now (cluster_of m) c.args.query.now (Passed c.in-Passed.q c.in-Passed.point) c.answer_passed.result
+      c.cluster-cluster.ensures.value c.in-Passed.is (λ v h. h) c.answer_passed.ensures.reply;
 }
 
 pub returns-in-Search : goal.returns-in-Search
 returns-in-Search g c = record {
   reply =
       let m = c.args.state.now.machine.timeline in
-      query_value (λ t v. SearchReply t c.in-Search.search v) m c.args.state.now.machine.timeline m c.args.query.now (Search c.in-Search.search) c.answer_search.result c.text_of-in-Search.result
-      refl c.in-Search.is (λ v h. h) c.answer_search.ensures.reply c.text_of-in-Search.ensures;
+      query_text (λ t v. SearchReply t c.in-Search.search v) m c.args.state.now.machine.timeline m c.args.query.now (Search c.in-Search.search) c.answer_search.result
+      refl c.in-Search.is (λ v h. h) c.answer_search.ensures.reply;
 }
 
 pub returns-in-Export : goal.returns-in-Export
@@ -76,62 +74,62 @@ pub returns-in-Why : goal.returns-in-Why
 returns-in-Why g c = record {
   reply =
       let m = c.args.state.now.machine.timeline in
-      query_value (λ s v. WhyReply s c.in-Why.q c.in-Why.point v) m c.cluster-cluster.result.now (cluster_of m) c.args.query.now (Why c.in-Why.q c.in-Why.point) c.answer_why.result c.text_of-in-Why.result
-      c.cluster-cluster.ensures.value c.in-Why.is (λ v h. h) c.answer_why.ensures.reply c.text_of-in-Why.ensures;
+      query_text (λ s v. WhyReply s c.in-Why.q c.in-Why.point v) m c.cluster-cluster.result.now (cluster_of m) c.args.query.now (Why c.in-Why.q c.in-Why.point) c.answer_why.result
+      c.cluster-cluster.ensures.value c.in-Why.is (λ v h. h) c.answer_why.ensures.reply;
 }
 
 pub returns-in-Changes : goal.returns-in-Changes
 returns-in-Changes g c = record {
   reply =
       let m = c.args.state.now.machine.timeline in
-      query_value (λ t v. ChangesReply t c.in-Changes.asked v) m c.timeline-in-Changes.result.now m c.args.query.now (Changes c.in-Changes.asked) c.answer_changes.result c.text_of-in-Changes.result
-      c.timeline-in-Changes.ensures.value c.in-Changes.is (λ v h. h) c.answer_changes.ensures.reply c.text_of-in-Changes.ensures;
+      query_text (λ t v. ChangesReply t c.in-Changes.asked v) m c.timeline-in-Changes.result.now m c.args.query.now (Changes c.in-Changes.asked) c.answer_changes.result
+      c.timeline-in-Changes.ensures.value c.in-Changes.is (λ v h. h) c.answer_changes.ensures.reply;
 }
 
 pub returns-in-Step : goal.returns-in-Step
 returns-in-Step g c = record {
   reply =
       let m = c.args.state.now.machine.timeline in
-      query_value (λ t v. StepReply t c.in-Step.to v) m c.timeline-in-Step.result.now m c.args.query.now (Step c.in-Step.to) c.answer_step.result c.text_of-in-Step.result
-      c.timeline-in-Step.ensures.value c.in-Step.is (λ v h. h) c.answer_step.ensures.reply c.text_of-in-Step.ensures;
+      query_text (λ t v. StepReply t c.in-Step.to v) m c.timeline-in-Step.result.now m c.args.query.now (Step c.in-Step.to) c.answer_step.result
+      c.timeline-in-Step.ensures.value c.in-Step.is (λ v h. h) c.answer_step.ensures.reply;
 }
 
 pub returns-in-Candidates : goal.returns-in-Candidates
 returns-in-Candidates g c = record {
   reply =
       let m = c.args.state.now.machine.timeline in
-      query_value (λ s v. CandidatesReply s v) m c.cluster-cluster.result.now (cluster_of m) c.args.query.now Candidates c.answer_candidates.result c.text_of-in-Candidates.result
-      c.cluster-cluster.ensures.value c.in-Candidates.is (λ v h. h) c.answer_candidates.ensures.reply c.text_of-in-Candidates.ensures;
+      query_text (λ s v. CandidatesReply s v) m c.cluster-cluster.result.now (cluster_of m) c.args.query.now Candidates c.answer_candidates.result
+      c.cluster-cluster.ensures.value c.in-Candidates.is (λ v h. h) c.answer_candidates.ensures.reply;
 }
 
 pub returns-in-Effect : goal.returns-in-Effect
 returns-in-Effect g c = record {
   reply =
       let m = c.args.state.now.machine.timeline in
-      query_value (λ t v. EffectReply t c.in-Effect.to v) m c.timeline-in-Effect.result.now m c.args.query.now (Effect c.in-Effect.to) c.answer_effect.result c.text_of-in-Effect.result
-      c.timeline-in-Effect.ensures.value c.in-Effect.is (λ v h. h) c.answer_effect.ensures.reply c.text_of-in-Effect.ensures;
+      query_text (λ t v. EffectReply t c.in-Effect.to v) m c.timeline-in-Effect.result.now m c.args.query.now (Effect c.in-Effect.to) c.answer_effect.result
+      c.timeline-in-Effect.ensures.value c.in-Effect.is (λ v h. h) c.answer_effect.ensures.reply;
 }
 
 pub returns-in-Turns : goal.returns-in-Turns
 returns-in-Turns g c = record {
   reply =
       let m = c.args.state.now.machine.timeline in
-      query_value (λ t v. TurnsReply t c.in-Turns.asked v) m c.timeline-in-Turns.result.now m c.args.query.now (Turns c.in-Turns.asked) c.answer_turns.result c.text_of-in-Turns.result
-      c.timeline-in-Turns.ensures.value c.in-Turns.is (λ v h. h) c.answer_turns.ensures.reply c.text_of-in-Turns.ensures;
+      query_text (λ t v. TurnsReply t c.in-Turns.asked v) m c.timeline-in-Turns.result.now m c.args.query.now (Turns c.in-Turns.asked) c.answer_turns.result
+      c.timeline-in-Turns.ensures.value c.in-Turns.is (λ v h. h) c.answer_turns.ensures.reply;
 }
 
 pub returns-in-FrontierAt : goal.returns-in-FrontierAt
 returns-in-FrontierAt g c = record {
   reply =
       let m = c.args.state.now.machine.timeline in
-      query_value (λ s v. FrontierAtReply s c.in-FrontierAt.q c.in-FrontierAt.location v) m c.cluster-cluster.result.now (cluster_of m) c.args.query.now (FrontierAt c.in-FrontierAt.q c.in-FrontierAt.location) c.answer_frontier_at.result c.text_of-in-FrontierAt.result
-      c.cluster-cluster.ensures.value c.in-FrontierAt.is (λ v h. h) c.answer_frontier_at.ensures.reply c.text_of-in-FrontierAt.ensures;
+      query_text (λ s v. FrontierAtReply s c.in-FrontierAt.q c.in-FrontierAt.location v) m c.cluster-cluster.result.now (cluster_of m) c.args.query.now (FrontierAt c.in-FrontierAt.q c.in-FrontierAt.location) c.answer_frontier_at.result
+      c.cluster-cluster.ensures.value c.in-FrontierAt.is (λ v h. h) c.answer_frontier_at.ensures.reply;
 }
 
 pub returns-in-WhyBefore : goal.returns-in-WhyBefore
 returns-in-WhyBefore g c = record {
   reply =
       let m = c.args.state.now.machine.timeline in
-      query_value (λ s v. WhyBeforeReply s c.in-WhyBefore.q c.in-WhyBefore.point v) m c.cluster-cluster.result.now (cluster_of m) c.args.query.now (WhyBefore c.in-WhyBefore.q c.in-WhyBefore.point) c.answer_why_before.result c.text_of-in-WhyBefore.result
-      c.cluster-cluster.ensures.value c.in-WhyBefore.is (λ v h. h) c.answer_why_before.ensures.reply c.text_of-in-WhyBefore.ensures;
+      query_text (λ s v. WhyBeforeReply s c.in-WhyBefore.q c.in-WhyBefore.point v) m c.cluster-cluster.result.now (cluster_of m) c.args.query.now (WhyBefore c.in-WhyBefore.q c.in-WhyBefore.point) c.answer_why_before.result
+      c.cluster-cluster.ensures.value c.in-WhyBefore.is (λ v h. h) c.answer_why_before.ensures.reply;
 }

@@ -1,11 +1,31 @@
-use Rattle.std.proofs.Common.{arith}
-use Rattle.rewind_answers.proofs.ExplainedLaws.{why_replies}
+use Rattle.std.proofs.Common.{List, arith, inl, inr, refl}
+use Rattle.serde_json.specs.Data.{Data}
+use Rattle.nd_graph.specs.Graph.{Dataflow}
+use Rattle.nd_why.specs.Account.{Account}
+use Rattle.rewind_forms.specs.Reasons.{reasons_data}
+use Rattle.rewind_forms.specs.Replies.{no_processor, why}
+use Rattle.rewind_answers.proofs.TextLaws.{tells}
 use Rattle.rewind_answers.proofs.why.answer_why.Goals as goal
+
+pub returns-then-q-n : goal.returns-then-q-n
+returns-then-q-n c = record {
+  reply = tells _ no_processor c.no_processor.result c.no_processor.ensures.reply (inl (omega (arith, c.n.ensures.value, c.if-q-n.true), refl));
+}
 
 pub returns : goal.returns
 returns c = record {
-  reply = (
-      why_replies c.args.cluster.now c.args.q c.args.point.now c.graph.result.now c.in-Ok.reasons c.passed-passed.result c.finished-finished.result c.in_ok-shown.shown c.why-2.result
-      (omega (arith, c.n.ensures.value)) c.graph.ensures c.in-Ok.ensures.whole c.passed-passed.ensures.passed c.finished-finished.ensures c.in_ok-shown.ensures.reply c.why-2.ensures.reply
-      );
+  reply =
+      let told : Dataflow → List Account → Data = λ g accounts. why c.finished-finished.result c.passed-passed.result (reasons_data g accounts) in
+      tells _ (told c.graph.result.now c.as_slice-reasons.result.now) c.text_of.result c.text_of.ensures (inr (
+        omega (arith, c.n.ensures.value),
+        record {
+          accounts = c.in-Ok.reasons;
+          whole = c.in-Ok.ensures.whole;
+          passed = c.passed-passed.result;
+          has_passed = c.passed-passed.ensures.passed;
+          finished = c.finished-finished.result;
+          is_finished = c.finished-finished.ensures;
+          told = λ i. told (c.graph.ensures i) (c.as_slice-reasons.ensures i);
+        },
+      ));
 }

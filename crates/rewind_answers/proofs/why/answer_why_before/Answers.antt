@@ -1,11 +1,31 @@
-use Rattle.std.proofs.Common.{arith}
-use Rattle.rewind_answers.proofs.ExplainedLaws.{why_before_replies}
+use Rattle.std.proofs.Common.{List, arith, inl, inr, refl}
+use Rattle.serde_json.specs.Data.{Data}
+use Rattle.nd_graph.specs.Graph.{Dataflow}
+use Rattle.nd_why.specs.Account.{Account}
+use Rattle.rewind_forms.specs.Reasons.{reasons_data}
+use Rattle.rewind_forms.specs.Replies.{no_processor, why}
+use Rattle.rewind_answers.proofs.TextLaws.{tells}
 use Rattle.rewind_answers.proofs.why.answer_why_before.Goals as goal
+
+pub returns-then-q-n : goal.returns-then-q-n
+returns-then-q-n c = record {
+  reply = tells _ no_processor c.no_processor.result c.no_processor.ensures.reply (inl (omega (arith, c.n.ensures.value, c.if-q-n.true), refl));
+}
 
 pub returns : goal.returns
 returns c = record {
-  reply = (
-      why_before_replies c.args.cluster.now c.args.q c.args.point.now c.graph.result.now c.in-Ok.reasons c.passed_before-has_passed.result c.finished_before-is_finished.result c.in_ok-shown.shown c.why.result
-      (omega (arith, c.n.ensures.value)) c.graph.ensures c.in-Ok.ensures.whole c.passed_before-has_passed.ensures.passed c.finished_before-is_finished.ensures c.in_ok-shown.ensures.reply c.why.ensures.reply
-      );
+  reply =
+      let told : Dataflow → List Account → Data = λ g accounts. why c.finished_before-finished.result c.passed_before-passed.result (reasons_data g accounts) in
+      tells _ (told c.graph.result.now c.as_slice-reasons.result.now) c.text_of.result c.text_of.ensures (inr (
+        omega (arith, c.n.ensures.value),
+        record {
+          accounts = c.in-Ok.reasons;
+          whole = c.in-Ok.ensures.whole;
+          passed = c.passed_before-passed.result;
+          has_passed = c.passed_before-passed.ensures.passed;
+          finished = c.finished_before-finished.result;
+          is_finished = c.finished_before-finished.ensures;
+          told = λ i. told (c.graph.ensures i) (c.as_slice-reasons.ensures i);
+        },
+      ));
 }

@@ -1,6 +1,0 @@
-use Rattle.std.proofs.Common.{refl}
-use Rattle.std.proofs.lemmas.Result.{IfOk-weaker}
-use Rattle.rewind_answers.proofs.kept.answer_export.Goals as goal
-
-pub returns : goal.returns
-returns c = record { reply = IfOk-weaker c.exported.result _ _ (λ t text. (_, refl, text)) c.exported.ensures.text }
