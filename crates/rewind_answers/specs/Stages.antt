@@ -31,7 +31,7 @@ phase_of (Running script) = phase_in script
 
 -- the reply to the graph's line
 abbrev pub first_data : First → Data
-first_data (Started s) = graph s.locations s.processors
+first_data (Started s) = graph s.reply.locations s.reply.processors
 first_data (Refused e) = error_data e
 
 -- the phase after the graph's line

@@ -15,7 +15,9 @@ use nd_cluster::{Cluster, StartFault};
 use nd_graph::{Graph, GraphDraft, GraphFault};
 use nd_session::State;
 use nd_timeline::{Command, Timeline};
-use rewind_forms::{Asked, ErrorReply, NoNames, Version, asked_of, line_fault, text_of};
+use rewind_forms::{
+    Asked, ErrorReply, GraphReply, NoNames, Version, asked_of, line_fault, text_of,
+};
 use serde_json::Value;
 use std::alloc::{AllocError, Global};
 use std::thread::Threads;
@@ -74,11 +76,10 @@ pub enum First {
     Refused(ErrorReply),
 }
 
-/// A `State` at its start, and the numbers of the graph's locations and of the processors.
+/// A `State` at its start, and the reply to its graph.
 #[derive(Drop)]
 pub struct Started {
-    pub locations: usize,
-    pub processors: u8,
+    pub reply: GraphReply,
     pub state: State,
 }
 
@@ -99,12 +100,11 @@ fn start_on(
         Ok(cluster) => {
             let timeline = Timeline::new(alloc, cluster)?;
             let state = State::new(alloc, timeline)?;
-            let locations = names.location_count();
-            Ok(First::Started(Started {
-                locations,
+            let reply = GraphReply {
+                locations: names.location_count(),
                 processors,
-                state,
-            }))
+            };
+            Ok(First::Started(Started { reply, state }))
         }
         Err(StartFault::BadCount) => {
             Ok(First::Refused(ErrorReply::Plain(StartFault::BadCount.code())))

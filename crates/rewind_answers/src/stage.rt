@@ -11,9 +11,7 @@ ghost use Rattle.rewind_answers.specs.Stages.{Tells, phase_of, phase_after};
 
 use crate::answer::{First, Started, answer_first, answer_later};
 use nd_session::State;
-use rewind_forms::{
-    LineFault, NoNames, Version, graph_reply, line_fault, text_of, version_of, version_reply,
-};
+use rewind_forms::{LineFault, NoNames, Version, line_fault, text_of, version_of, version_reply};
 use rewind_lines::Reading;
 use serde_json::Value;
 use std::alloc::{AllocError, Global};
@@ -86,14 +84,8 @@ fn answer_graph(
             reply: Some(text_of(alloc, &NoNames, &error)?),
             is_last: true,
         }),
-        First::Started(
-            Started {
-                locations,
-                processors,
-                state,
-            },
-        ) => {
-            let text = graph_reply(alloc, locations, processors)?;
+        First::Started(Started { reply, state }) => {
+            let text = text_of(alloc, &NoNames, &reply)?;
             *stage = Stage::Running(Script { version, state });
             Ok(goes_on(text))
         }

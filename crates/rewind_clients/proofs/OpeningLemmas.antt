@@ -4,7 +4,8 @@ use Rattle.std.specs.Option.{option_to_list}
 use Rattle.std.specs.declared.alloc.AllocError.{AllocError}
 use Rattle.serde_json.specs.Data.{Data}
 use Rattle.rewind_lines.specs.Lines.{blank, too_long, no_json, json}
-use Rattle.rewind_forms.specs.Replies.{line_fault, version as version_reply}
+use Rattle.rewind_forms.specs.LineFaults.{code_of}
+use Rattle.rewind_forms.specs.Replies.{faulty, version as version_reply}
 use Rattle.rewind_forms.specs.Versions.{number_of, version_of}
 use Rattle.rewind_forms.specs.declared.version.Version.{Version}
 use Rattle.rewind_forms.specs.declared.fault.LineFault.TheVariants.{LineTooLong, BadLine}
@@ -19,17 +20,13 @@ reads-blank p c n None = record { replies = []; phase = unopened p; answers = (r
 reads-blank p c n (Some v) = record { replies = []; phase = unstarted v p; answers = (refl, refl); begun = refl }
 
 -- a line that is no JSON value
-pub reads-long : (p c n : ℕ) (v : Option Version) (r : Result Intake AllocError) → IfOk r (λ new. (reply : Data) × (Some reply ≡ line_fault LineTooLong n) × (intake_view new ≡ refused_graph reply))
-    → IfOk r (λ new. ReadsLine p c (unstarted_view v) n too_long (intake_view new))
-reads-long p c n None (Ok new) h = record { replies = h.0 ∷ []; phase = refused; answers = (ap option_to_list h.1, refl); begun = h.2 }
-reads-long p c n (Some v) (Ok new) h = record { replies = h.0 ∷ []; phase = refused; answers = (ap option_to_list h.1, refl); begun = h.2 }
-reads-long p c n v (Err e) h = h
+pub reads-long : (p c n : ℕ) (v : Option Version) → ReadsLine p c (unstarted_view v) n too_long (refused_graph (faulty (code_of LineTooLong) n))
+reads-long p c n None = record { replies = faulty (code_of LineTooLong) n ∷ []; phase = refused; answers = (refl, refl); begun = refl }
+reads-long p c n (Some v) = record { replies = faulty (code_of LineTooLong) n ∷ []; phase = refused; answers = (refl, refl); begun = refl }
 
-pub reads-bad : (p c n : ℕ) (v : Option Version) (r : Result Intake AllocError) → IfOk r (λ new. (reply : Data) × (Some reply ≡ line_fault BadLine n) × (intake_view new ≡ refused_graph reply))
-    → IfOk r (λ new. ReadsLine p c (unstarted_view v) n no_json (intake_view new))
-reads-bad p c n None (Ok new) h = record { replies = h.0 ∷ []; phase = refused; answers = (ap option_to_list h.1, refl); begun = h.2 }
-reads-bad p c n (Some v) (Ok new) h = record { replies = h.0 ∷ []; phase = refused; answers = (ap option_to_list h.1, refl); begun = h.2 }
-reads-bad p c n v (Err e) h = h
+pub reads-bad : (p c n : ℕ) (v : Option Version) → ReadsLine p c (unstarted_view v) n no_json (refused_graph (faulty (code_of BadLine) n))
+reads-bad p c n None = record { replies = faulty (code_of BadLine) n ∷ []; phase = refused; answers = (refl, refl); begun = refl }
+reads-bad p c n (Some v) = record { replies = faulty (code_of BadLine) n ∷ []; phase = refused; answers = (refl, refl); begun = refl }
 
 -- a version line
 pub reads-version : (p c n : ℕ) (d : Data) (v : Version) → Some v ≡ version_of d → ReadsLine p c nothing n (json d) (opened v (version_reply (number_of v)))

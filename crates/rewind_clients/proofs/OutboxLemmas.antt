@@ -5,6 +5,7 @@ use Rattle.std.proofs.Math.Seq.{take-append-add}
 use Rattle.std.specs.Io.KnownBytes.{Appends}
 use Rattle.serde_json.specs.Data.{Data}
 use Rattle.rewind_lines.specs.Known.{Known, text_of-append, written-on}
+use Rattle.serde_json.specs.Written.{compact_text}
 use Rattle.rewind_lines.specs.Texts.{reply_text, text_of}
 use Rattle.rewind_clients.specs.Gathered.{Gathered}
 use Rattle.rewind_clients.specs.Written.{WroteFront}
@@ -14,9 +15,10 @@ whole : (replies : List Data) (waiting before : List ℕ) (after : Known) (h : G
 whole replies waiting before after h = ap text_of h.split ∙ (text_of-append h.sent h.kept ∙ ap (λ t. text_of h.sent ++ t) (sym h.waits))
 
 -- one more reply waits
-pub added : (replies : List Data) (reply : Data) (waiting waits before : List ℕ) (after : Known) → waits ≡ waiting ++ reply_text reply → Gathered replies waiting before after
+pub added : (replies : List Data) (reply : Data) (text waiting waits before : List ℕ) (after : Known) → text ≡ compact_text reply → waits ≡ waiting ++ (text ++ 10 ∷ []) → Gathered replies waiting before after
     → Gathered (replies ++ reply ∷ []) waits before after
-added replies reply waiting waits before after more h = record {
+unfolding reply_text
+added replies reply text waiting waits before after shown told h = let more = told ∙ ap (λ t. waiting ++ (t ++ 10 ∷ [])) shown in record {
   sent = h.sent;
   kept = h.kept ++ reply ∷ [];
   split = ap (λ rs. rs ++ reply ∷ []) h.split ∙ append_assoc h.sent h.kept (reply ∷ []);

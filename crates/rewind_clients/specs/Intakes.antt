@@ -3,7 +3,8 @@ use Rattle.std.specs.Prelude.{ℕ, List, [], ◌∷◌, ◌++◌, map, unwrap_or
 use Rattle.std.specs.declared.alloc.Global.{Global}
 use Rattle.serde_json.specs.Data.{Data}
 use Rattle.nd_timeline.specs.declared.command.Command.{Command}
-use Rattle.rewind_forms.specs.Replies.{version as version_reply}
+use Rattle.rewind_forms.specs.Errors.{error_data}
+use Rattle.rewind_forms.specs.Replies.{graph as graph_reply, version as version_reply}
 use Rattle.rewind_forms.specs.Versions.{number_of}
 use Rattle.rewind_forms.specs.declared.version.Version.{Version}
 use Rattle.rewind_forms.specs.declared.version.Version.TheVariants.{First}
@@ -34,15 +35,15 @@ version_of s = unwrap_or s.opened First
 
 -- the replies to its version line, if there was one, and to its graph
 abbrev pub opening_replies : Script → List Data
-opening_replies s = version_replies s.opened ++ s.reply ∷ []
+opening_replies s = version_replies s.opened ++ graph_reply s.reply.locations s.reply.processors ∷ []
 
 abbrev pub script_view : Script → read.Intake
 script_view s = script (version_of s) (opening_replies s) (logged s.state) (lists_of s.commands.items)
 
 abbrev pub intake_view : Intake → read.Intake
 intake_view (Unstarted version) = unstarted_view version
-intake_view (Refused reply) = refused_graph reply
-intake_view (Faulty reply) = faulty_line reply
+intake_view (Refused e) = refused_graph (error_data e)
+intake_view (Faulty e) = faulty_line (error_data e)
 intake_view (Whole s) = script_view s
 
 -- a script, or the reply to its faulty line

@@ -36,7 +36,7 @@ fn answer_script<R: Threads + Wait + Sync, T: Sink, G: Gate>(
 {
     // This call's clauses say that the `State` began at an initial state.
     let _ = script.state.timeline();
-    tell_opening(alloc, sink, script.opened, script.reply)?;
+    tell_opening(alloc, sink, script.opened, &script.reply)?;
     let driven = drive_session(rt, alloc, script.state, script.commands, gate)?;
     tell_log(
         alloc,
@@ -64,11 +64,11 @@ fn answer<R: Threads + Wait + Sync, T: Sink, G: Gate>(
     match intake {
         Intake::Unstarted(opened) => tell_version(alloc, sink, opened),
         Intake::Refused(reply) => {
-            tell_one(alloc, sink, reply)?;
+            tell_one(alloc, sink, &reply)?;
             Err(DebugFault::Graph)
         }
         Intake::Faulty(fault) => {
-            tell_one(alloc, sink, fault)?;
+            tell_one(alloc, sink, &fault)?;
             Err(DebugFault::Script)
         }
         Intake::Whole(script) => answer_script(rt, alloc, sink, script, gate),

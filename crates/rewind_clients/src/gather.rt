@@ -5,7 +5,9 @@ ghost use Rattle.rewind_lines.specs.Faults.{is_write_fault};
 ghost use Rattle.rewind_clients.specs.Gathered.{Gathered, GatherFails, IsOfWriting};
 ghost use Rattle.rewind_clients.specs.Written.{WroteFront};
 
+use rewind_forms::{Names, Shown, text_of};
 use rewind_lines::{DebugFault, Outbox, Sink, Unwritten};
+use std::alloc::Global;
 
 /// Writes the replies that wait.
 pub fn flush<T: Sink>(outbox: &mut Outbox, sink: &mut T) -> Result<(), Unwritten>
@@ -22,20 +24,29 @@ pub fn flush<T: Sink>(outbox: &mut Outbox, sink: &mut T) -> Result<(), Unwritten
     outbox.flush(sink)
 }
 
-/// Gathers one more reply, and writes all waiting replies if they are many: afterwards fewer than
-/// 65,536 bytes wait.
-pub fn put<T: Sink>(outbox: &mut Outbox, sink: &mut T, text: Vec<u8>) -> Result<(), DebugFault>
+/// Gathers one more reply, with these names, and writes all waiting replies if they are many: afterwards
+/// fewer than 65,536 bytes wait.
+pub fn put<T: Sink, N: Names, V: Shown>(
+    alloc: Global,
+    outbox: &mut Outbox,
+    sink: &mut T,
+    names: &N,
+    reply: &V,
+) -> Result<(), DebugFault>
     requires sound { T.failed sink.old ≡ false }
     ensures ok { OnOk result ((replies : List Data) (before : List ℕ)
         → Gathered replies outbox.old before (T.contents sink.old)
-        → Gathered (replies ++ reply.now ∷ []) outbox.new before (T.contents sink.new)) }
+        → Gathered (replies ++ V.shown (N.graph names.now) reply.now ∷ [])
+        outbox.new before (T.contents sink.new)) }
     ensures err { IfErr result (λ e. (replies : List Data) (before : List ℕ)
         → Gathered replies outbox.old before (T.contents sink.old)
-        → GatherFails replies reply.now outbox.new before (T.contents sink.new) e) }
+        → GatherFails replies (V.shown (N.graph names.now) reply.now)
+        outbox.new before (T.contents sink.new) e) }
     ensures few { OnOk result (length outbox.new < 65536) }
     ensures kind { IfErr result IsOfWriting }
     ensures failed { T.failed sink.new ≡ is_write_fault result }
 {
+    let text = text_of(alloc, names, reply)?;
     outbox.add_text(text)?;
     if outbox.is_full() {
         flush(outbox, sink)?;

@@ -1,21 +1,22 @@
 //! What results from reading the lines of a script, one after another.
-ghost use Rattle.std.specs.Prelude.{◌≡◌, ◌<◌, [], Some, length, IfOk, OnOk};
-ghost use Rattle.serde_json.specs.Data.{Data};
+ghost use Rattle.std.specs.Prelude.{◌≡◌, ◌<◌, [], length, option_map, IfOk, OnOk};
 ghost use Rattle.serde_json.specs.View.{view};
 ghost use Rattle.nd_timeline.specs.Timeline.{cluster_of};
 ghost use Rattle.rewind_lines.specs.Lines.{json};
 ghost use Rattle.rewind_lines.specs.Readings.{reading_view};
-ghost use Rattle.rewind_forms.specs.Replies.{line_fault};
+ghost use Rattle.rewind_forms.specs.Errors.{error_data};
+ghost use Rattle.rewind_forms.specs.LineFaults.{code_of};
+ghost use Rattle.rewind_forms.specs.Replies.{faulty};
 ghost use Rattle.rewind_answers.specs.Stages.{logged};
 ghost use Rattle.rewind_clients.specs.Orders.{order_in as order_line};
-ghost use Rattle.rewind_clients.specs.Intake.{refused_graph, ReadsLine, no_commands as no_commands_in, ordered, with_command};
+ghost use Rattle.rewind_clients.specs.Intake.{ReadsLine, no_commands as no_commands_in, ordered, with_command};
 ghost use Rattle.rewind_clients.specs.Intakes.{intake_view, lists_of, opening_replies, or_faulty, unstarted_view, version_of as version_in, Starts};
 
-use crate::order::{Order, order_fault, order_in};
+use crate::order::{Order, order_in};
 use nd_session::State;
 use nd_timeline::Command;
-use rewind_answers::answer_first;
-use rewind_forms::{LineFault, Version, line_fault as fault_text, version_of};
+use rewind_answers::{First, Started, answer_first};
+use rewind_forms::{ErrorReply, GraphReply, LineFault, Version, version_of};
 use rewind_lines::{Options, Reading};
 use serde_json::Value;
 use std::alloc::{AllocError, Global};
@@ -26,7 +27,7 @@ pub struct Script {
     /// The version that the version line names, if there was one.
     pub opened: Option<Version>,
     /// The graph's reply.
-    pub reply: Vec<u8>,
+    pub reply: GraphReply,
     /// The `State` that begins at the initial state on the graph.
     pub state: State,
     /// Each client's commands, in the order of its lines.
@@ -40,9 +41,9 @@ pub enum Intake {
     /// blank.
     Unstarted(Option<Version>),
     /// The graph's line was refused, and this is its reply.
-    Refused(Vec<u8>),
+    Refused(ErrorReply),
     /// A line after the graph's is faulty, and this is its reply.
-    Faulty(Vec<u8>),
+    Faulty(ErrorReply),
     /// A graph, and clients' commands.
     Whole(Script),
 }
@@ -58,12 +59,11 @@ fn no_commands(alloc: Global, clients: u8) -> Result<Vec<Vec<Command>>, AllocErr
     Ok(commands)
 }
 
-// Returns the result of a line up to the graph's that is no JSON value: it ends the run.
-fn refuse(alloc: Global, fault: LineFault, line: u64) -> Result<Intake, AllocError>
-    ensures { IfOk result (λ new. (reply : Data) × (Some reply ≡ line_fault fault line)
-        × (intake_view new ≡ refused_graph reply)) }
+// Returns the reply to a line that is no JSON value.
+fn error_at(fault: LineFault, line: u64) -> ErrorReply
+    ensures { error_data result ≡ faulty (code_of fault) line }
 {
-    Ok(Intake::Refused(fault_text(alloc, fault, line)?))
+    ErrorReply::Line(fault.code(), line)
 }
 
 // Returns the result of the graph's line, from its value.
@@ -78,10 +78,9 @@ fn start(
         (view value.now) (intake_view new)) }
 {
     let version = opened.unwrap_or(Version::First);
-    let (reply, started) = answer_first(alloc, version, options.processors, value)?;
-    match started {
-        None => Ok(Intake::Refused(reply)),
-        Some(state) => Ok(Intake::Whole(Script {
+    match answer_first(alloc, version, options.processors, value)? {
+        First::Refused(error) => Ok(Intake::Refused(error)),
+        First::Started(Started { reply, state }) => Ok(Intake::Whole(Script {
             opened,
             reply,
             state,
@@ -126,8 +125,8 @@ fn begin(
 {
     match reading {
         Reading::Blank => Ok(Intake::Unstarted(opened)),
-        Reading::TooLong => refuse(alloc, LineFault::LineTooLong, line),
-        Reading::NoJson => refuse(alloc, LineFault::BadLine, line),
+        Reading::TooLong => Ok(Intake::Refused(error_at(LineFault::LineTooLong, line))),
+        Reading::NoJson => Ok(Intake::Refused(error_at(LineFault::BadLine, line))),
         Reading::Json(value) => read_value(alloc, options, opened, value, line),
     }
 }
@@ -150,8 +149,8 @@ impl Script {
         alloc: Global,
         reading: Reading,
         line: u64,
-    ) -> Result<Option<Vec<u8>>, AllocError>
-        ensures { IfOk result (λ r. or_faulty r self.new ≡ ordered (version_in self.old)
+    ) -> Result<Option<ErrorReply>, AllocError>
+        ensures { IfOk result (λ r. or_faulty (option_map error_data r) self.new ≡ ordered (version_in self.old)
             (opening_replies self.old) (logged self.old.state) (lists_of self.old.commands.items) line
             (order_line (version_in self.old) (length self.old.commands.items)
             (cluster_of self.old.state.machine.timeline).graph (reading_view reading))) }
@@ -163,7 +162,7 @@ impl Script {
                 add_command(&mut self.commands, order)?;
                 Ok(None)
             }
-            Err(fault) => Ok(Some(order_fault(alloc, fault, line)?)),
+            Err(fault) => Ok(Some(ErrorReply::Line(fault.code(), line))),
         }
     }
 }

@@ -3,14 +3,14 @@ ghost use Rattle.std.specs.Prelude.{◌≡◌, ◌<◌, IfOk};
 ghost use Rattle.serde_json.specs.View.{view};
 ghost use Rattle.rewind_lines.specs.Readings.{reading_view};
 ghost use Rattle.rewind_forms.specs.Grammar.{form_of};
-ghost use Rattle.rewind_clients.specs.Orders.{among, asks_query, is_query as is_query_in, order_of as order_in_value, order_in as order_in_line, order_fault as order_fault_data, code_of};
+ghost use Rattle.rewind_clients.specs.Orders.{among, asks_query, is_query as is_query_in, order_of as order_in_value, order_in as order_in_line, code_of};
 
 use crate::numbers::without;
 use nd_graph::Graph;
 use nd_json::whole_at;
 use nd_time::Code;
 use nd_timeline::Command;
-use rewind_forms::{Asked, Form, LineFault, NoNames, Version, asked_of, object, text_of};
+use rewind_forms::{Asked, Form, LineFault, Version, asked_of};
 use rewind_lines::Reading;
 use serde_json::Value;
 use std::alloc::{AllocError, Global};
@@ -44,15 +44,6 @@ impl OrderFault {
             OrderFault::OneClientOnly => Code::new(36, "OneClientOnly"),
         }
     }
-}
-
-/// Returns the reply to a faulty line of this number.
-pub fn order_fault(alloc: Global, fault: OrderFault, line: u64) -> Result<Vec<u8>, AllocError>
-    ensures reply { IfOk result (λ j. j ≡ order_fault_data fault line) }
-{
-    let code = fault.code();
-    let reply = object! {"code": code.number(), "error": code.name(), "line": line};
-    text_of(alloc, &NoNames, &reply)
 }
 
 // Returns whether the line has the form of a query: from what it asks for or, if it is faulty, from

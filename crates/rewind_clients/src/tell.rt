@@ -1,37 +1,20 @@
 //! The replies to the clients, as lines.
 ghost use Rattle.std.specs.Prelude.{◌≡◌, ◌++◌, ◌∷◌, [], ℕ, List, Some, false, map, IfOk, IfErr, OnOk};
 ghost use Rattle.serde_json.specs.Data.{Data};
-ghost use Rattle.nd_session.specs.Faults.{code_of};
+ghost use Rattle.rewind_forms.specs.Errors.{no_graph};
+ghost use Rattle.rewind_forms.specs.Replies.{graph as graph_data};
 ghost use Rattle.rewind_lines.specs.Texts.{text_of};
 ghost use Rattle.rewind_lines.specs.Faults.{is_write_fault};
 ghost use Rattle.rewind_clients.specs.Intakes.{version_replies};
 ghost use Rattle.rewind_clients.specs.Gathered.{Gathered, IsOfWriting, StopsIn};
-ghost use Rattle.rewind_clients.specs.Told.{client_fault, entry_data, faults_data, lines_data};
+ghost use Rattle.rewind_clients.specs.Told.{entry_data, faults_data, lines_data};
 
 use crate::gather::{flush, put};
 use nd_graph::Graph;
 use nd_session::{Receipt, SessionFault};
-use rewind_forms::{NoNames, Version, object, text_of as reply_text, version_reply};
+use rewind_forms::{GraphReply, NoNames, Shown, Version, object};
 use rewind_lines::{DebugFault, Outbox, Sink};
-use std::alloc::{AllocError, Global};
-
-// Returns the line of an entry of the log.
-fn entry_text(alloc: Global, graph: &Graph, entry: &Receipt) -> Result<Vec<u8>, AllocError>
-    ensures reply { IfOk result (λ j. j ≡ entry_data graph.now entry.now) }
-{
-    let (client, number) = (entry.client, entry.number);
-    let line = object! {"client": client, "number": number, "reply": &entry.reply};
-    reply_text(alloc, graph, &line)
-}
-
-// Returns the line of a client with a command that the session refused.
-fn fault_text(alloc: Global, client: u64, fault: &SessionFault) -> Result<Vec<u8>, AllocError>
-    ensures reply { IfOk result (λ j. j ≡ client_fault client (code_of fault.now)) }
-{
-    let code = fault.code();
-    let line = object! {"client": client, "code": code.number(), "error": code.name()};
-    reply_text(alloc, &NoNames, &line)
-}
+use std::alloc::Global;
 
 /// Gathers the lines of the entries of a log.
 pub fn put_log<T: Sink>(
@@ -53,8 +36,14 @@ pub fn put_log<T: Sink>(
     ensures failed { T.failed sink.new ≡ is_write_fault result }
 {
     for entry in log {
-        let text = entry_text(alloc, graph, entry)?;
-        put(outbox, sink, text)?;
+        let Receipt {
+            client,
+            number,
+            reply,
+            ..
+        } = entry;
+        let line = object! {"client": *client, "number": *number, "reply": reply};
+        put(alloc, outbox, sink, graph, &line)?;
     }
     Ok(())
 }
@@ -81,8 +70,9 @@ fn put_fault<T: Sink>(
     let Some(fault) = fault else {
         return Ok(());
     };
-    let text = fault_text(alloc, client, fault)?;
-    put(outbox, sink, text)?;
+    let code = fault.code();
+    let line = object! {"client": client, "code": code.number(), "error": code.name()};
+    put(alloc, outbox, sink, &NoNames, &line)?;
     Ok(())
 }
 
@@ -111,17 +101,17 @@ pub fn put_faults<T: Sink>(
 }
 
 /// Writes one reply.
-pub fn tell_one<T: Sink>(alloc: Global, sink: &mut T, text: Vec<u8>) -> Result<(), DebugFault>
+pub fn tell_one<T: Sink, V: Shown>(alloc: Global, sink: &mut T, reply: &V) -> Result<(), DebugFault>
     requires sound { T.failed sink.old ≡ false }
     ensures ok { OnOk result ((before : List ℕ) → T.contents sink.old ≡ Some before
-        → T.contents sink.new ≡ Some (before ++ text_of (reply.now ∷ []))) }
+        → T.contents sink.new ≡ Some (before ++ text_of (V.shown no_graph reply.now ∷ []))) }
     ensures err { IfErr result (λ e. (before : List ℕ) → T.contents sink.old ≡ Some before
-        → StopsIn (reply.now ∷ []) before (T.contents sink.new) e) }
+        → StopsIn (V.shown no_graph reply.now ∷ []) before (T.contents sink.new) e) }
     ensures kind { IfErr result IsOfWriting }
     ensures failed { T.failed sink.new ≡ is_write_fault result }
 {
     let mut outbox = Outbox::new(alloc);
-    put(&mut outbox, sink, text)?;
+    put(alloc, &mut outbox, sink, &NoNames, reply)?;
     flush(&mut outbox, sink)?;
     Ok(())
 }
@@ -146,8 +136,8 @@ fn put_version<T: Sink>(
     let Some(version) = opened else {
         return Ok(());
     };
-    let text = version_reply(alloc, version)?;
-    put(outbox, sink, text)?;
+    let line = object! {"ok": true, "version": version.number()};
+    put(alloc, outbox, sink, &NoNames, &line)?;
     Ok(())
 }
 
@@ -176,20 +166,20 @@ pub fn tell_opening<T: Sink>(
     alloc: Global,
     sink: &mut T,
     opened: Option<Version>,
-    graph: Vec<u8>,
+    graph: &GraphReply,
 ) -> Result<(), DebugFault>
     requires sound { T.failed sink.old ≡ false }
     ensures ok { OnOk result ((before : List ℕ) → T.contents sink.old ≡ Some before
         → T.contents sink.new
-        ≡ Some (before ++ text_of (version_replies opened ++ graph.now ∷ []))) }
+        ≡ Some (before ++ text_of (version_replies opened ++ graph_data graph.now.locations graph.now.processors ∷ []))) }
     ensures err { IfErr result (λ e. (before : List ℕ) → T.contents sink.old ≡ Some before
-        → StopsIn (version_replies opened ++ graph.now ∷ []) before (T.contents sink.new) e) }
+        → StopsIn (version_replies opened ++ graph_data graph.now.locations graph.now.processors ∷ []) before (T.contents sink.new) e) }
     ensures kind { IfErr result IsOfWriting }
     ensures failed { T.failed sink.new ≡ is_write_fault result }
 {
     let mut outbox = Outbox::new(alloc);
     put_version(alloc, &mut outbox, sink, opened)?;
-    put(&mut outbox, sink, graph)?;
+    put(alloc, &mut outbox, sink, &NoNames, graph)?;
     flush(&mut outbox, sink)?;
     Ok(())
 }

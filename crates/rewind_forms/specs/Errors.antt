@@ -1,9 +1,14 @@
 -- The replies that end a script before its first command.
-use Rattle.std.specs.Prelude.{string_bytes}
+use Rattle.std.specs.Prelude.{[], string_bytes}
+use Rattle.nd_graph.specs.Graph.{Dataflow}
 use Rattle.serde_json.specs.Data.{Data}
 use Rattle.rewind_forms.specs.Replies.{fault, faulty, location_fault}
 use Rattle.rewind_forms.specs.declared.replies.ErrorReply.{ErrorReply}
 use Rattle.rewind_forms.specs.declared.replies.ErrorReply.TheVariants.{Plain, Line, Location}
+
+-- the graph before there is one
+abbrev pub no_graph : Dataflow
+no_graph = record { vertices = []; edges = [] }
 
 -- an error's number and name, and where it is
 abbrev pub error_data : ErrorReply → Data

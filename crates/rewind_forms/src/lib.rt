@@ -33,7 +33,7 @@ pub use laws::steps_are_their_objects;
 pub use lists::{Counts, Entries, KeptSteps};
 pub use members::{End, Member, Members, Object};
 pub use queries::{Query, Search, Turns, ViewChanges};
-pub use replies::{ErrorReply, graph_reply, line_fault, version_reply};
+pub use replies::{ErrorReply, GraphReply, line_fault, version_reply};
 pub use shown::{Names, NoNames, Place, Shown};
 pub use steps::read_step;
 pub use version::{Version, version_of};

@@ -26,6 +26,24 @@ impl Shown for Code {
     }
 }
 
+/// The reply to a graph: the numbers of its locations and of the processors.
+#[derive(Drop)]
+pub struct GraphReply {
+    pub locations: usize,
+    pub processors: u8,
+}
+
+impl Shown for GraphReply {
+    ghost shown = { λ g r. graph_data r.locations r.processors };
+
+    ghost exact = { λ g r. refl };
+
+    fn send<S: Serializer, N: Names>(&self, out: &mut S, names: &N) -> Result<(), S::Error> {
+        let processors = u32::from(self.processors);
+        object! {"locations": self.locations, "ok": true, "processors": processors}.send(out, names)
+    }
+}
+
 /// The reply that ends a script before its first command: an error, and where it is.
 #[derive(Drop)]
 pub enum ErrorReply {
@@ -152,16 +170,6 @@ impl Shown for Reply {
             Reply::Refused(fault) => fault.send(out, names),
         }
     }
-}
-
-/// Returns the text of the reply to a graph: the number of its locations, and of the processors.
-pub fn graph_reply(alloc: Global, locations: usize, processors: u8) -> Result<Vec<u8>, AllocError>
-    ensures reply { IfOk result (λ t.
-        t.items ≡ compact_text (graph_data locations processors)) }
-{
-    let processors = u32::from(processors);
-    let reply = object! {"locations": locations, "ok": true, "processors": processors};
-    text_of(alloc, &NoNames, &reply)
 }
 
 // Returns the text of an error of the line with this number.

@@ -1,11 +1,12 @@
 //! The trait of what replies show, each value as a JSON value, and the names of locations.
-ghost use Rattle.std.specs.Prelude.{◌≡◌, [], false, map, option_map, OnOk, refl};
+ghost use Rattle.std.specs.Prelude.{◌≡◌, false, map, option_map, OnOk, refl};
 ghost use Rattle.serde_json.specs.Data.{Data, boolean, string};
 ghost use Rattle.serde_json.specs.Events.{SendsValue};
 ghost use Rattle.serde_json.specs.Written.{has_float};
 ghost use Rattle.nd_graph.specs.Graph.{Dataflow};
 ghost use Rattle.nd_state_json.specs.StateText.{name_at as name_in, natural, row, whole};
 ghost use Rattle.rewind_forms.specs.Effects.{or_null};
+ghost use Rattle.rewind_forms.specs.Errors.{no_graph};
 ghost use Rattle.rewind_forms.specs.NoFloats.{no_float-row, no_float-whole, no_float-or_null};
 
 use nd_graph::Graph;
@@ -38,7 +39,7 @@ impl Names for Graph {
 pub struct NoNames;
 
 impl Names for NoNames {
-    ghost graph = { λ _. record { vertices = []; edges = [] } };
+    ghost graph = { λ _. no_graph };
 
     fn name_at(&self, _location: usize) -> &str {
         ""

@@ -1,10 +1,8 @@
 //! Replies that are collected, and written together.
 ghost use Rattle.std.specs.Prelude.{◌≡◌, ◌++◌, ◌∷◌, [], ℕ, false, length, nat_le, take, is_err, OnOk, OnErr};
 ghost use Rattle.std.specs.Io.KnownBytes.{Appends};
-ghost use Rattle.rewind_lines.specs.Texts.{reply_text};
 
 use crate::sink::{Sink, Unwritten, send};
-use nd_json::Json;
 use std::alloc::{AllocError, Global};
 use std::marker::Model;
 
@@ -35,16 +33,6 @@ impl Outbox {
             alloc,
             waiting: Vec::new(alloc),
         }
-    }
-
-    /// Appends `reply` as a line: its compact JSON text and a newline.
-    #[tactic(auto, unfolding(crate::specs::Texts::reply_text))]
-    pub fn add(&mut self, reply: &Json) -> Result<(), AllocError>
-        ensures ok { OnOk result (self.new ≡ self.old ++ reply_text reply.now) }
-        ensures err { OnErr result (self.new ≡ self.old) }
-    {
-        let text = reply.to_bytes(self.alloc)?;
-        self.add_text(text)
     }
 
     /// Appends `text` as a line: the text and a newline. If no reply waits, a long text is moved instead of copied.

@@ -1,4 +1,4 @@
-use Rattle.std.proofs.Common.{◌∙◌, ◌+◌, List, ◌++◌, map, drop, take, subst, ap}
+use Rattle.std.proofs.Common.{◌∙◌, ◌+◌, List, ◌++◌, map, drop, take, subst, ap, refl}
 use Rattle.std.proofs.lemmas.List.{take_all}
 use Rattle.std.proofs.lemmas.Result.{err_from_is_err_and}
 use Rattle.serde_json.specs.Data.{Data}
@@ -7,23 +7,15 @@ use Rattle.rewind_clients.specs.Told.{entry_data}
 use Rattle.rewind_clients.proofs.ToldLemmas.{lines-of, map-one, map-rest, stops-put}
 use Rattle.rewind_clients.proofs.tell.put_log.Goals as goal
 
-pub returns-in_err-value-clause-err : goal.returns-in_err-value-clause-err
-returns-in_err-value-clause-err g c =
-    let p = err_from_is_err_and c.from_residual.result c.from_residual.ensures.1 in
-    let f = entry_data c.args.graph.now in
-    let i = c.loop-entry.entry-index in
-    rw (p.1, p.2) (λ replies before h.
-    lines-of (replies ++ map f (take i c.args.log.now)) (map f (drop i c.args.log.now)) _ _ before _ (c.loop-entry.invariant.gathered replies before h) (map-rest f replies c.args.log.now i))
-
 pub returns-in_err-put-clause-err : goal.returns-in_err-put-clause-err
 returns-in_err-put-clause-err g c =
-    let p = err_from_is_err_and c.from_residual-in_err-put.result c.from_residual-in_err-put.ensures.1 in
+    let p = err_from_is_err_and c.from_residual.result c.from_residual.ensures.1 in
     let f = entry_data c.args.graph.now in
     let i = c.loop-entry.entry-index in
     let log = c.args.log.now in
     rw (p.1, p.2) (λ replies before h.
-    stops-put (replies ++ map f (take i log)) (map f (drop (i + 1) log)) _ c.in_ok-value.value _ before _ _ (c.in_err-put.ensures.err _ before (c.loop-entry.invariant.gathered replies before h))
-    (ap (λ (ds : List Data). ds ++ map f (drop (i + 1) log)) (map-one f replies log i _ c.in_ok-value.value c.loop-entry-test.true c.entry-item.is c.in_ok-value.ensures.reply) ∙ map-rest f replies log (i + 1)))
+    stops-put (replies ++ map f (take i log)) (map f (drop (i + 1) log)) _ _ _ before _ _ (c.in_err-put.ensures.err _ before (c.loop-entry.invariant.gathered replies before h))
+    (ap (λ (ds : List Data). ds ++ map f (drop (i + 1) log)) (map-one f replies log i _ _ c.loop-entry-test.true c.entry-item.is refl) ∙ map-rest f replies log (i + 1)))
 
 pub loop-entry-preserved : goal.loop-entry-preserved
 loop-entry-preserved g c =
@@ -32,7 +24,7 @@ loop-entry-preserved g c =
     record {
       gathered = λ replies before h.
           subst (λ (rs : List Data). Gathered rs c.put.new.outbox before (g.T.Sink.contents c.put.new.sink))
-          (map-one f replies c.args.log.now i _ c.in_ok-value.value c.loop-entry-test.true c.entry-item.is c.in_ok-value.ensures.reply)
+          (map-one f replies c.args.log.now i _ _ c.loop-entry-test.true c.entry-item.is refl)
           (c.in_ok-put.ensures.ok _ before (c.loop-entry.invariant.gathered replies before h));
       sound = c.in_ok-put.ensures.failed;
     }

@@ -8,7 +8,7 @@ pub returns-in_err-put-clause-err : goal.returns-in_err-put-clause-err
 returns-in_err-put-clause-err g c =
     let p = err_from_is_err_and c.from_residual.result c.from_residual.ensures.1 in
     rw (p.1, p.2) (λ before told.
-    stops-put [] [] _ c.args.reply.now _ before _ _ (c.in_err-put.ensures.err [] before (none-gathered _ before _ c.new-outbox.ensures told)) refl)
+    stops-put [] [] _ _ _ before _ _ (c.in_err-put.ensures.err [] before (none-gathered _ before _ c.new-outbox.ensures told)) refl)
 
 pub returns-in_err-flush-clause-err : goal.returns-in_err-flush-clause-err
 returns-in_err-flush-clause-err g c =

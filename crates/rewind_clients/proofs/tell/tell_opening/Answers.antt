@@ -1,3 +1,4 @@
+use Rattle.rewind_forms.specs.Replies.{graph}
 use Rattle.std.proofs.Common.{[], ◌∷◌, ◌++◌}
 use Rattle.std.proofs.lemmas.List.{append-nil}
 use Rattle.std.proofs.lemmas.Result.{err_from_is_err_and}
@@ -10,15 +11,15 @@ pub returns-in_err-put_version-clause-err : goal.returns-in_err-put_version-clau
 returns-in_err-put_version-clause-err g c =
     let p = err_from_is_err_and c.from_residual.result c.from_residual.ensures.1 in
     rw (p.1, p.2) (λ before told.
-    stops-more (version_replies c.args.opened) (c.args.graph.now ∷ []) before _ _ (c.in_err-put_version.ensures.err [] before (none-gathered _ before _ c.new-outbox.ensures told)))
+    stops-more (version_replies c.args.opened) (graph c.args.graph.now.locations c.args.graph.now.processors ∷ []) before _ _ (c.in_err-put_version.ensures.err [] before (none-gathered _ before _ c.new-outbox.ensures told)))
 
 pub returns-in_err-put-clause-err : goal.returns-in_err-put-clause-err
 returns-in_err-put-clause-err g c =
     let p = err_from_is_err_and c.from_residual-in_err-put.result c.from_residual-in_err-put.ensures.1 in
     rw (p.1, p.2) (λ before told.
-    stops-put (version_replies c.args.opened) [] _ c.args.graph.now _ before _ _
+    stops-put (version_replies c.args.opened) [] _ _ _ before _ _
     (c.in_err-put.ensures.err _ before (c.in_ok-put_version.ensures.ok [] before (none-gathered _ before _ c.new-outbox.ensures told)))
-    (append-nil (version_replies c.args.opened ++ c.args.graph.now ∷ [])))
+    (append-nil _))
 
 pub returns-in_err-flush-clause-err : goal.returns-in_err-flush-clause-err
 returns-in_err-flush-clause-err g c =
