@@ -11,7 +11,7 @@ use nd_timeline::{Fault, Timeline};
 use rewind_forms::{KeptSteps, NoNames, object, text_of};
 use std::alloc::{AllocError, Global};
 
-/// Replies with all kept steps, and the cursor. The reply is made as text.
+/// Replies with all kept steps, and the cursor.
 pub(crate) fn answer_export(alloc: Global, timeline: &Timeline) -> Result<Vec<u8>, AllocError>
     ensures reply { IfOk result (λ t. TellsOne (ExportReply timeline.now) t.items) }
 {

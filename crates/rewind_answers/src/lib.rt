@@ -1,5 +1,5 @@
-//! The reply to one line of a script, and the state after it. This crate does not know about bytes,
-//! sources or sinks.
+//! The text of the reply to one line of a script, and the state after it. This crate knows nothing
+//! of sources or sinks.
 #![tactic(auto)]
 
 mod ahead;

@@ -64,7 +64,7 @@ fn answer_before(
     text_of(alloc, &NoNames, &object! {"before": before, "ok": true})
 }
 
-// Replies with the view of a processor, made as text.
+// Replies with the view of a processor.
 fn answer_view(alloc: Global, cluster: &Cluster, q: u32) -> Result<Vec<u8>, AllocError>
     ensures reply { IfOk result (λ t. TellsOne (ViewReply cluster.now q) t.items) }
 {
@@ -79,7 +79,7 @@ fn answer_view(alloc: Global, cluster: &Cluster, q: u32) -> Result<Vec<u8>, Allo
     text_of(alloc, &NoNames, &object! {"ok": true, "view": view})
 }
 
-// Replies with the frontier of a processor's view, made as text.
+// Replies with the frontier of a processor's view.
 fn answer_frontier(alloc: Global, cluster: &Cluster, q: u32) -> Result<Vec<u8>, AllocError>
     ensures reply { IfOk result (λ t. TellsOne (FrontierReply cluster.now q) t.items) }
 {

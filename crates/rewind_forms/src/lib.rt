@@ -1,4 +1,4 @@
-//! What the lines of a script ask for, and the values and texts that replies show.
+//! What the lines of a script ask for, and how replies are written.
 #![tactic(auto)]
 
 mod asked;

@@ -1,4 +1,4 @@
-//! The lists of a view, a state and kept steps, and what is told of them.
+//! States, views, frontiers and kept steps, and the elements of some of their lists.
 ghost use Rattle.std.specs.Prelude.{◌≡◌, ◌∷◌, OnOk, map};
 ghost use Rattle.nd_delta.specs.Delta.{entries};
 ghost use Rattle.nd_state_json.specs.StateText.{entries_data, row, state_data, time_data};

@@ -47,6 +47,7 @@ impl Shown for GraphReply {
 /// The reply that ends a script before its first command: an error, and where it is.
 #[derive(Drop)]
 pub enum ErrorReply {
+    /// The error alone.
     Plain(Code),
     /// At the line of this number.
     Line(Code, u64),

@@ -1,4 +1,4 @@
-//! The types that a reply shows as a JSON value.
+//! The trait of what replies show, each value as a JSON value, and the names of locations.
 ghost use Rattle.std.specs.Prelude.{◌≡◌, false, map, option_map, OnOk, refl};
 ghost use Rattle.serde_json.specs.Data.{Data, boolean, string};
 ghost use Rattle.serde_json.specs.Events.{SendsValue};
@@ -13,7 +13,7 @@ use nd_graph::Graph;
 use serde::Serializer;
 use std::alloc::Allocator;
 
-/// What has the names of locations: a graph, or nothing yet.
+/// What gives locations their names: a graph, or `NoNames`.
 pub trait Names {
     ghost graph: { Self → Dataflow };
 
@@ -34,7 +34,7 @@ impl Names for Graph {
     }
 }
 
-/// The names before there is a graph: none.
+/// No names, for replies that show no location.
 #[derive(Drop)]
 pub struct NoNames;
 
@@ -46,7 +46,19 @@ impl Names for NoNames {
     }
 }
 
-/// The name of a location, or an empty text if there is no such location.
+/// A type that replies show: each value is shown as one JSON value, which has no float.
+pub trait Shown {
+    ghost shown: { Dataflow → Self → Data };
+
+    ghost exact: { (g : Dataflow) (x : Self) → has_float (shown g x) ≡ false };
+
+    /// Sends the JSON value of `self`.
+    fn send<S: Serializer, N: Names>(&self, out: &mut S, names: &N) -> Result<(), S::Error>
+        ensures { OnOk result (SendsValue (shown (N.graph names.now) self.now)
+            (S.written out.old) (S.written out.new)) };
+}
+
+/// A location, shown by its name: an empty text if there is no such location.
 #[derive(Drop)]
 pub struct Place(pub usize);
 
@@ -58,18 +70,6 @@ impl Shown for Place {
     fn send<S: Serializer, N: Names>(&self, out: &mut S, names: &N) -> Result<(), S::Error> {
         out.str(names.name_at(self.0))
     }
-}
-
-/// A type whose values a reply shows, each as a JSON value without floats.
-pub trait Shown {
-    ghost shown: { Dataflow → Self → Data };
-
-    ghost exact: { (g : Dataflow) (x : Self) → has_float (shown g x) ≡ false };
-
-    /// Sends the JSON value of `self`.
-    fn send<S: Serializer, N: Names>(&self, out: &mut S, names: &N) -> Result<(), S::Error>
-        ensures { OnOk result (SendsValue (shown (N.graph names.now) self.now)
-            (S.written out.old) (S.written out.new)) };
 }
 
 impl Shown for bool {

@@ -25,7 +25,7 @@ impl<'a, N: Names, T: Shown> Serialize for Sent<'a, N, T> {
     }
 }
 
-/// Returns the compact text of a value, with these names.
+/// Returns the compact text of the JSON value as which `value` is shown, with these names.
 pub fn text_of<N: Names, T: Shown>(
     alloc: Global,
     names: &N,
