@@ -9,7 +9,16 @@ from rewind_tools import testing
 
 # The length of the graph, the feeds, the values of each, and the steps of the run after them.
 SIZE = (9, 570, 20, 100_000) if IS_PROVED else (2, 50, 6, 250)
+# In milliseconds, on a machine on which a million additions take Python 80.
 MOST_MS = 100
+
+
+def most_ms():
+    """The limit on this machine, as quick as it is now."""
+    begun, total = time.process_time(), 0
+    for number in range(1_000_000):
+        total += number
+    return MOST_MS * max(1, (time.process_time() - begun) / 0.08)
 
 
 def median(work, times=5):
@@ -51,8 +60,9 @@ class ManyKept(testing.Case):
             frames = median(lambda: client.body("stackTrace", threadId=2))
             first = median(self.look, 1)
             again = median(self.look)
+            most = most_ms()
             for name, taken in (("frames", frames), ("variables", first), ("variables again", again)):
-                self.holds(f"{name} at {position}", taken < MOST_MS or not IS_PROVED, taken)
+                self.holds(f"{name} at {position}", taken < most or not IS_PROVED, (taken, most))
             told.append(f"at {position} frames {frames:.0f} ms, variables {first:.0f} ms")
         steps = median(lambda: client.stop("stepBack", threadId=2))
         source = median(lambda: client.body("source", sourceReference=1), 1)

@@ -310,7 +310,8 @@ class Ends(testing.Case):
         with Client() as client:
             client.launch(script_file(self.addCleanup, [ROUND, FEED]), 1)
             client.send("evaluate", expression="run 900000", context="repl")
-            time.sleep(0.5)
+            # soon enough that a quick program still runs
+            time.sleep(0.1)
             os.kill(client.program(), signal.SIGKILL)
             self.judge_killed(client, "in a typed run")
 
@@ -327,7 +328,7 @@ class Ends(testing.Case):
         with Client() as client:
             client.launch(script_file(self.addCleanup, [ROUND, FEED]), 1)
             client.body("continue", threadId=1)
-            time.sleep(0.3)
+            time.sleep(0.1)
             os.kill(client.program(), signal.SIGKILL)
             self.judge_killed(client, "in a run")
 
