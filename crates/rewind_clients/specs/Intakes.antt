@@ -4,6 +4,7 @@ use Rattle.std.specs.declared.alloc.Global.{Global}
 use Rattle.serde_json.specs.Data.{Data}
 use Rattle.nd_timeline.specs.declared.command.Command.{Command}
 use Rattle.rewind_forms.specs.Errors.{error_data}
+use Rattle.rewind_forms.specs.declared.replies.ErrorReply.{ErrorReply}
 use Rattle.rewind_forms.specs.Replies.{graph as graph_reply, version as version_reply}
 use Rattle.rewind_forms.specs.Versions.{number_of}
 use Rattle.rewind_forms.specs.declared.version.Version.{Version}
@@ -47,9 +48,9 @@ intake_view (Faulty e) = faulty_line (error_data e)
 intake_view (Whole s) = script_view s
 
 -- a script, or the reply to its faulty line
-abbrev pub or_faulty : Option Data → Script → read.Intake
+abbrev pub or_faulty : Option ErrorReply → Script → read.Intake
 or_faulty None s = script_view s
-or_faulty (Some reply) s = faulty_line reply
+or_faulty (Some e) s = faulty_line (error_data e)
 
 -- the result of the graph's line with the value d, after a version line or none
 pub record Starts (processors clients : ℕ) (version : Option Version) (d : Data) (new : read.Intake) : Type 0 where

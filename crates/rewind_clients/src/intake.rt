@@ -1,5 +1,5 @@
 //! What results from reading the lines of a script, one after another.
-ghost use Rattle.std.specs.Prelude.{◌≡◌, ◌<◌, [], length, option_map, IfOk, OnOk};
+ghost use Rattle.std.specs.Prelude.{◌≡◌, ◌<◌, [], length, IfOk, OnOk};
 ghost use Rattle.serde_json.specs.View.{view};
 ghost use Rattle.nd_timeline.specs.Timeline.{cluster_of};
 ghost use Rattle.rewind_lines.specs.Lines.{json};
@@ -150,7 +150,7 @@ impl Script {
         reading: Reading,
         line: u64,
     ) -> Result<Option<ErrorReply>, AllocError>
-        ensures { IfOk result (λ r. or_faulty (option_map error_data r) self.new ≡ ordered (version_in self.old)
+        ensures { IfOk result (λ r. or_faulty r self.new ≡ ordered (version_in self.old)
             (opening_replies self.old) (logged self.old.state) (lists_of self.old.commands.items) line
             (order_line (version_in self.old) (length self.old.commands.items)
             (cluster_of self.old.state.machine.timeline).graph (reading_view reading))) }
