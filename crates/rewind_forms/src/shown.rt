@@ -10,6 +10,7 @@ ghost use Rattle.rewind_forms.specs.Errors.{no_graph};
 ghost use Rattle.rewind_forms.specs.NoFloats.{no_float-row, no_float-whole, no_float-or_null};
 
 use nd_graph::Graph;
+use nd_state_json::name_at;
 use serde::Serializer;
 use std::alloc::Allocator;
 
@@ -26,11 +27,7 @@ impl Names for Graph {
     ghost graph = { λ g. g };
 
     fn name_at(&self, location: usize) -> &str {
-        if location < self.location_count() {
-            self.location_name(location)
-        } else {
-            ""
-        }
+        name_at(self, location)
     }
 }
 
