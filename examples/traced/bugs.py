@@ -35,7 +35,7 @@ class RequestUnreported(Worker):
 class DecrementsFirst(Worker):
     """A broadcast of a part sends the decrements, and keeps the increments that replace them."""
 
-    def increments(self, unsent):
+    def part(self, unsent):
         return [point for point, n in unsent.items() if n < 0]
 
 

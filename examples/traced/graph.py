@@ -104,10 +104,12 @@ class Graph:
         return any(is_at_or_before(it.apply(point.time), other.time) for it in summaries)
 
     def as_json(self):
-        """The graph in the form in which debuggers read it."""
-        vertices = [{key: n for key, n in it._asdict().items() if n is not None} for it in self.vertices.values()]
-        edges = [
-            {"name": it.name, "from": it.source, "port": it.port, "to": it.target, "route": it.route}
-            for it in self.edges.values()
-        ]
-        return {"vertices": vertices, "edges": edges}
+        """The graph in the form in which a debugger reads it."""
+        vertices, edges = [it._asdict() for it in self.vertices.values()], self.edges.values()
+        return {
+            "vertices": [{key: n for key, n in it.items() if n is not None} for it in vertices],
+            "edges": [
+                {"name": it.name, "from": it.source, "port": it.port, "to": it.target, "route": it.route}
+                for it in edges
+            ],
+        }

@@ -6,8 +6,8 @@ import threading
 class Network:
     """One mailbox per worker, for records and progress updates.
 
-    A worker is busy until it waits for a message. Once no worker is busy and no message is on its way, nobody
-    will ever send another: then the waiting ends, whether or not the dataflow is finished."""
+    A worker is busy until it waits for a message. Once no worker is busy and no message is on its way, no
+    worker will ever send another. Then the waiting ends, whether or not the dataflow is finished."""
 
     def __init__(self, workers):
         self.mailboxes = [queue.Queue() for _ in range(workers)]

@@ -8,7 +8,7 @@ SUMS = Graph(
     [Vertex("words", "input"), Vertex("total", "sum"), Vertex("out", "sink")],
     [Edge("words", "total", route="exchange"), Edge("total", "out")],
 )
-# Each value goes round the loop until it is 5 or more; at each round it goes to the worker that it belongs to.
+# Each value goes round the loop until it is 5 or more. Each round begins at the worker that it belongs to.
 ROUNDS = Graph(
     [
         Vertex("numbers", "input"),
@@ -33,7 +33,8 @@ PROGRAMS = {"sums": (SUMS, range(-9, 100)), "rounds": (ROUNDS, range(1, 9))}
 
 
 def feeds(values, seed, worker, epochs, records):
-    """What one worker's input gives: each epoch's values in one piece or in two, and what comes after each."""
+    """What one worker's input gives: each epoch's values, in one piece or in two, with what comes after each
+    piece."""
     chosen, made = random.Random(f"{seed} values {worker}"), []
     for epoch in range(epochs):
         piece = chosen.choices(values, k=records)

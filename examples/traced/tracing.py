@@ -24,7 +24,8 @@ class Trace:
     def belief(self, do, point, **keys):
         """Writes that the worker believes what could result in a pointstamp finished."""
         if BELIEFS in self.told:
-            self.write(do, {"q": self.worker, "at": point.location, "time": point.time, **keys, "is": {"passed": True}})
+            asked = {"q": self.worker, "at": point.location, "time": point.time, **keys}
+            self.write(do, {**asked, "is": {"passed": True}})
 
     def write(self, do, keys):
         caller = sys._getframe(2)

@@ -116,18 +116,16 @@ class Worker(threading.Thread):
         self.progress.count(Pointstamp(location, time), n)
 
     def broadcast(self):
-        """Sends unsent changes to all workers: all of them, or the increments alone, since a decrement must not
-        come before an increment that it allows."""
-        unsent = self.progress.unsent
-        part = self.random.choice([None, self.increments(unsent)]) or None
-        number, change = self.progress.cut(part or list(unsent))
-        told = {"part": part} if part else {}
-        self.trace.step("broadcast", number=number, change=change, **told)
+        """Sends unsent changes to all workers."""
+        part = self.part(self.progress.unsent)
+        number, change = self.progress.cut(part or list(self.progress.unsent))
+        self.trace.step("broadcast", number=number, change=change, **({"part": part} if part else {}))
         for to in range(self.workers):
             self.post(to, Update(self.index, number, change))
 
-    def increments(self, unsent):
-        return [point for point, n in unsent.items() if n > 0]
+    def part(self, unsent):
+        """What a broadcast sends, everything if it is empty: increments may go ahead of decrements."""
+        return self.random.choice([[], [point for point, n in unsent.items() if n > 0]])
 
     def post(self, to, update):
         self.network.send(to, update)
