@@ -58,7 +58,7 @@ class Worker(threading.Thread):
 
     def work(self):
         """What the worker could do now."""
-        work = [functools.partial(self.take, it) for it in self.records]
+        work = [functools.partial(self.take, it) for it in self.records[:9]]
         work += [functools.partial(self.receive, it) for it, queue in enumerate(self.updates) if queue]
         work += [functools.partial(self.notify, it) for it in self.requests if self.progress.is_due(it)]
         work += [self.feed] if self.feeds else []
