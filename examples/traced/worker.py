@@ -57,7 +57,7 @@ class Worker(threading.Thread):
             (self.updates[it.sender] if isinstance(it, Update) else self.records).append(it)
 
     def work(self):
-        """What the worker could do now."""
+        """What the worker could do now, of the records only with the oldest."""
         work = [functools.partial(self.take, it) for it in self.records[:9]]
         work += [functools.partial(self.receive, it) for it, queue in enumerate(self.updates) if queue]
         work += [functools.partial(self.notify, it) for it in self.requests if self.progress.is_due(it)]
