@@ -1,4 +1,4 @@
-"""Bugs that implementers make, each planted in the worker by a line or a few."""
+"""Bugs that implementers make, each planted in the worker by a line or a few, so that every run shows it."""
 from graph import Pointstamp
 from worker import Worker
 
@@ -121,8 +121,8 @@ class LateRecord(Worker):
 
     def feed(self):
         values, then = self.feeds[0]
-        late = [] if then == "stay" else values[-1:]
-        self.feeds[0], time = (values[: len(values) - len(late)], then), (self.epoch,)
+        late, time = values[-1:] if then != "stay" else [], (self.epoch,)
+        self.feeds[0] = values[: len(values) - len(late)], then
         super().feed()
         for it in late:
             self.trace.step("feed", vertex=self.graph.input, values=late, next="stay")
