@@ -1,0 +1,62 @@
+"""The program that executes the lines of the traces, in the last version of the script that it has.
+
+    program = Program(graph, 3, on_note)        GraphRefused, if it refuses the graph
+    program.ask([b"..", b".."])                 the reply to each line, as bytes
+    program.asked({"do": "state"})              the reply to one line, as a value
+    program.again([b"..", ..])                  a new process, which executes these lines first
+    program.close()"""
+import json
+
+from rewind_tools import opening
+from rewind_tools.session import Session, VersionRefused
+from rewind_tools.tool import Fault
+
+# The versions in which a run can be followed, the last first.
+VERSIONS = (6, 5)
+# How many lines are executed again at once.
+PIECE = 2_000
+
+
+class GraphRefused(Exception):
+    """The program has refused the graph: its text says why."""
+
+
+class Program:
+    def __init__(self, graph, workers, on_note):
+        self.graph, self.words, self.on_note = graph, ["--processors", str(workers)], on_note
+        self.session = self.opened()
+        why = opening.graph_refused(self.session)
+        if why:
+            self.close()
+            raise GraphRefused(why)
+        self.version = self.session.version
+
+    def opened(self):
+        for version in VERSIONS[:-1]:
+            try:
+                return Session(self.graph, self.words, version, self.on_note)
+            except VersionRefused:
+                pass
+        return Session(self.graph, self.words, VERSIONS[-1], self.on_note)
+
+    def ask(self, texts):
+        return self.session.ask_lines(texts)
+
+    def asked(self, value):
+        return self.session.ask(value)
+
+    def again(self, texts):
+        """Executes lines that were executed before in a new process, whose log has room."""
+        self.close()
+        self.session = self.opened()
+        for begin in range(0, len(texts), PIECE):
+            for reply in self.ask(texts[begin : begin + PIECE]):
+                if not reply.startswith(b'{"at":'):
+                    raise Fault(f"the program has refused a line that it had executed: {reply.decode().strip()}")
+
+    def close(self):
+        self.session.close()
+
+
+def value_of(reply):
+    return json.loads(reply)
