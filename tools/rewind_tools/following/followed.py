@@ -1,0 +1,56 @@
+"""A run of another program, from its traces to its ending.
+
+    run = Run(graph, ["worker-0.jsonl", ..], on_note)      GraphRefused, if the program refuses the graph
+    for text, indent, colour in run.follow(): ..           what is said of it
+    run.left()                                             what a run that is followed leaves, in sentences
+    run.status                                             the exit status
+    run.is_read                                            whether the traces could be read
+    run.close()"""
+from rewind_tools.following import unreadable
+from rewind_tools.following.checking import Follower
+from rewind_tools.following.endings import FOLLOWED, UNREADABLE, ending_of
+from rewind_tools.following.epochs import Epochs
+from rewind_tools.following.left import left_of, left_words
+from rewind_tools.following.merging import Merging
+from rewind_tools.following.places import Places
+from rewind_tools.following.program import Program
+from rewind_tools.following.reading import Unreadable, read
+from rewind_tools.following.traces import Trace
+from rewind_tools.following.words import Words
+
+
+class Run:
+    def __init__(self, graph, paths, on_note):
+        self.traces = [Trace(path, worker) for worker, path in enumerate(paths)]
+        self.program = Program(graph, len(paths), on_note)
+        self.epochs, self.places = Epochs(), Places(graph, len(paths))
+        self.follower = self.ending = self.fault = None
+
+    def follow(self):
+        """Reads and executes the traces; returns what is said of that."""
+        try:
+            lines = read(self.traces, self.epochs, self.places, self.program)
+        except Unreadable as fault:
+            self.fault = fault
+            return unreadable.said(fault, self.program, len(self.traces))
+        self.follower = Follower(self.program, Merging(lines, self.places))
+        self.follower.follow()
+        self.ending = ending_of(self.follower)
+        return Words(self.follower, self.traces, self.epochs, self.program).of(self.ending)
+
+    @property
+    def is_read(self):
+        return self.ending is not None
+
+    @property
+    def status(self):
+        return self.ending.status if self.is_read else UNREADABLE
+
+    def left(self):
+        if not self.is_read or self.ending.name != FOLLOWED:
+            return []
+        state = self.epochs.told(self.program.asked({"do": "state"}))["state"]
+        return left_words(left_of(state, self.program.graph))
+
+    def close(self):
+        self.program.close()
