@@ -41,17 +41,31 @@ def no_record(words, line, value, reply):
 def queue_empty(words, line, value, reply):
     """How many broadcasts the sender made."""
     p, q = value["from"], value["to"]
-    made = words.merging.sent[p]
-    said = f"nothing is on its way from processor {p} to {q}: it has made {counted(made, 'broadcast')}"
+    made = counted(words.merging.sent[p], "broadcast")
     rest = sum(it.word == "broadcast" for it in words.merging.lines[p][words.merging.at[p] :])
-    if rest:
-        return [f"{said}, and its trace has {rest} more"]
-    return [f"{said}, and its trace has no more"]
+    more = f"{rest} more" if rest else "no more"
+    return [f"nothing is on its way: processor {p} has made {made}, and its trace has {more}"]
+
+
+def waited_for(words, line, value):
+    """What a line waits for that another worker has not executed."""
+    if line.word == "take":
+        return no_record(words, line, value, None)[0]
+    if line.word == "receive":
+        return queue_empty(words, line, value, None)[0]
+    return f"a queue from processor {value['p']} is full; a receive makes room"
+
+
+def nothing_to_send(words, line, value, reply):
+    unsent = words.state["processors"][value["p"]]["unsent"]
+    return [f"nothing of this is unsent; unsent is: {some_of(f'{at(*it[:2])}: {it[2]}' for it in unsent)}"]
 
 
 def not_admissible(words, line, value, reply):
     """Which negative entries of the part supported the point that is left out."""
     said = inadmissible(words.teller, value, reply, words.state)
+    if words.program.version > 5:
+        said += ", nor a capability that it holds at an opaque vertex"
     part = value.get("part")
     unsent = words.state["processors"][value["p"]]["unsent"]
     sent = [it for it in unsent if it[2] < 0 and (part is None or it[:2] in part)]
@@ -110,6 +124,7 @@ def too_early(words, line, value, reply):
 FACTS = {
     "NoRecord": no_record,
     "QueueEmpty": queue_empty,
+    "NothingToSend": nothing_to_send,
     "NotAdmissible": not_admissible,
     "NotYet": not_yet_and_why,
     "NoRequest": no_request,

@@ -4,7 +4,8 @@ import json
 from rewind_tools.following.words import teller_of
 from rewind_tools.following.traces import own_of
 from rewind_tools.runs import json_of
-from rewind_tools.telling import faults
+from rewind_tools.script import LAST
+from rewind_tools.telling import faults, names
 from rewind_tools.telling.commands import unread
 from rewind_tools.telling.forms import FORMS
 from rewind_tools.telling.printing import BOLD, RED
@@ -31,8 +32,19 @@ def wrong(unreadable, text, teller):
     if not isinstance(value, dict) or not isinstance(value.get("do"), str):
         return faults.line_faults(text, unreadable.reply, teller)
     own_of(value)
-    given = unreadable.given
+    if value["do"] not in FORMS and program_knows_more(teller):
+        return unknown_vertex(value, teller.graph) if unreadable.reply["error"] == "UnknownName" else []
     is_form = unreadable.reply["error"] == "BadShape"
-    if not is_form and value["do"] not in FORMS:
-        return []
-    return faults.line_faults(given if is_form else json.dumps(value).encode(), unreadable.reply, teller)
+    asked = unreadable.given if is_form else json.dumps(value).encode()
+    return faults.line_faults(asked, unreadable.reply, teller)
+
+
+def program_knows_more(teller):
+    """Whether the program may read words that tools/tell has no form for."""
+    return teller.version > LAST
+
+
+def unknown_vertex(value, graph):
+    known = list(graph.vertices)
+    is_known = value.get("vertex") in known
+    return [] if is_known else [names.unknown_name(graph, value.get("vertex"), "vertex", known)]

@@ -5,7 +5,7 @@
 The sentences are those of tools/tell, about times as they stand in the traces. What they say of the state
 comes from the program, which is at the end of what could be executed."""
 from rewind_tools.following import facts
-from rewind_tools.following.comparing import entries_apart, frozen
+from rewind_tools.following.comparing import entries_apart
 from rewind_tools.following.endings import DIFFERS, FOLLOWED, TOO_LONG
 from rewind_tools.following.steps import step_words
 from rewind_tools.following.traces import own_of
@@ -15,7 +15,7 @@ from rewind_tools.telling.commands import at, counted, some_of, time_in
 from rewind_tools.telling.printing import BOLD, RED
 from rewind_tools.telling.values import shown
 
-MOST_WAITS = 16
+WAITS = "waits"
 
 
 def teller_of(program, workers):
@@ -45,8 +45,8 @@ class Words:
             said += self.wrong(wrong, wrong.ending)
         for wrong in ending.waits:
             is_first = not ending.wrongs and wrong is ending.waits[0]
-            said += self.wrong(wrong, wrong.ending if is_first else "waits")
-        return said + self.cuts() + [self.how_far(ending)]
+            said += self.wrong(wrong, wrong.ending if is_first else WAITS)
+        return said + self.cuts() + self.how_far(ending)
 
     def wrong(self, wrong, how):
         """A line that was not executed, and why."""
@@ -54,6 +54,9 @@ class Words:
         value = trace.value(line.number)
         own = own_of(value)
         said = [(f"{how} at {trace.path}, line {line.number}: {step_words(value)}", 0, BOLD)]
+        said += [(f"note: {own['note']}", 4, "")] if "note" in own else []
+        if how == WAITS:
+            return said + [(facts.waited_for(self, line, value), 4, "")]
         reply = self.epochs.told(wrong.reply)
         if wrong.ending == DIFFERS:
             sentences = self.differences(wrong, value, own, reply)
@@ -61,8 +64,7 @@ class Words:
             sentences = [facts.wrong_number(value, own, reply["number"])]
         else:
             sentences = self.refusal(line, value, reply)
-        said += [(it, 4, RED if not at and how != "waits" else "") for at, it in enumerate(sentences)]
-        return said + ([(f"note: {own['note']}", 4, "")] if "note" in own else [])
+        return said + [(it, 4, "" if at else RED) for at, it in enumerate(sentences)]
 
     def refusal(self, line, value, reply):
         """A refusal: its number, its name, what stands in the way, and what else helps."""
@@ -106,14 +108,14 @@ class Words:
         ]
 
     def how_far(self, ending):
-        """How many lines of each file were executed."""
+        """How many steps were executed, and how many lines of each file."""
         steps = counted(self.follower.position, "step")
         counts = [(it.path, at, len(it.lines)) for it, at in zip(self.traces, self.merging.at)]
         if ending.name == FOLLOWED:
             lines = f"{sum(it[1] for it in counts)} lines of {counted(len(counts), 'trace')}"
-            return f"executed: {lines}, {steps}", 0, ""
-        listed = ", ".join(f"{at} of {count} lines of {path}" for path, at, count in counts)
-        return f"executed: {listed}; {steps}", 0, ""
+            return [(f"executed: {lines}, {steps}", 0, "")]
+        said = [(f"executed: {steps}", 0, "")]
+        return said + [(f"{path}: {at} of {counted(count, 'line')}", 4, "") for path, at, count in counts]
 
 
 def entries_of_reasons(reasons):
@@ -130,13 +132,10 @@ def entry_words(it):
 
 def apart(key, asked, got):
     """The members that differ, or of two lists the entries."""
-    if not (isinstance(asked, list) and isinstance(got, list)):
-        has = "which the reply does not have" if got is None else f"and it is {shown(got)}"
-        return [f'by the trace "{key}" is {shown(asked)}, {has}']
+    if key == "point" or not (isinstance(asked, list) and isinstance(got, list)):
+        has = "the reply does not have it" if got is None else f"{shown(got)} by the protocol"
+        return [f'"{key}" is {shown(asked)} in the trace; {has}']
     ours, its = entries_apart(asked, got)
-    said = f'"{key}" differs: '
-    if key == "point":
-        return [f"{said}by the trace it is {entry_words(asked)}, and it is {entry_words(got)}"]
-    parts = [f"by the trace it has {some_of(map(entry_words, ours))}"] if ours else []
-    parts += [f"by the protocol it has {some_of(map(entry_words, its))}"] if its else []
-    return [said + ", and ".join(parts)]
+    parts = [f"has {some_of(map(entry_words, ours))}"] if ours else []
+    parts += [f"lacks {some_of(map(entry_words, its))}"] if its else []
+    return [f'"{key}" differs: the trace ' + "; it ".join(parts)]
