@@ -50,7 +50,7 @@ def queue_empty(words, line, value, reply):
 def waited_for(words, line, value):
     """What a line waits for that another worker has not executed."""
     if line.word == "take":
-        return no_record(words, line, value, None)[0]
+        return f"processor {value['p']} has no such record yet"
     if line.word == "receive":
         return queue_empty(words, line, value, None)[0]
     return f"a queue from processor {value['p']} is full; a receive makes room"
