@@ -123,8 +123,8 @@ FOLLOWED = {
         "line",
         [[feed(0, "a", [5, 5, 6], "next")]],
         [
-            "processor 0, open inputs: a (1); records: 2 records of value 5 at az (0) and 1 record of value 6"
-            " at az (0); not broadcast: a (0): -1, a (1): 1 and az (0): 3"
+            "processor 0, open inputs: a (1); records: 2 records of value 5 at az (0) and 1 record of value"
+            " 6 at az (0); not broadcast: a (0): -1, a (1): 1 and az (0): 3"
         ],
     ),
     "a held capability": (
@@ -296,8 +296,8 @@ WRONG = {
         [W0[:4] + W0[5:], W1],
         "refused at w0, line 6: processor 0 receives the first change on its way from processor 0",
         [
-            'its "number" is 2, and the next to receive from processor 0 is 1: broadcast 1 was lost, or comes'
-            " later",
+            'its "number" is 2, and the next to receive from processor 0 is 1: broadcast 1 was lost, or'
+            " comes later",
             "waits at w1, line 14: ",
             "nothing is on its way: processor 0 has made 2 broadcasts, and its trace has 1 more",
         ],
@@ -306,7 +306,7 @@ WRONG = {
         "sums",
         [W0[:5] + W0[4:], W1],
         "refused at w0, line 6: ",
-        ['its "number" is 1, and the next to receive from processor 0 is 2: broadcast 1 was received before'],
+        ["the next to receive from processor 0 is 2: broadcast 1 was received before"],
     ),
     "numbers are swapped": (
         "sums",
@@ -330,7 +330,10 @@ WRONG = {
         "sums",
         [changed(W0, 1, change=[["words", [0], -1], ["words-total", [0], 2]]), W1],
         "differs at w0, line 2: ",
-        ['"change" differs: the trace has words-total (0): 2; it lacks words-total (0): 3', "waits at w1, line"],
+        [
+            '"change" differs: the trace has words-total (0): 2; it lacks words-total (0): 3',
+            "waits at w1, line 3: ",
+        ],
     ),
     "the change of a receive": (
         "line",
@@ -418,7 +421,7 @@ WRONG = {
         "sums",
         [[feed(0, "words", [1], "close"), take(0, "words-total", [0], 1)], []],
         "refused at w0, line 2: processor 0 takes a record of value 1 from words-total (0)",
-        ["8 NoRecord: processor 0 has no record of value 1 at words-total (0); the record is on processor 1"],
+        ["8 NoRecord: processor 0 has no record of value 1 at words-total (0); the record is on proc"],
     ),
     "a record at another time": (
         "line",
@@ -436,19 +439,22 @@ WRONG = {
         "line",
         [[receive(1, 0)], []],
         "refused at w0, line 1: ",
-        ["17 QueueEmpty: nothing is on its way: processor 1 has made 0 broadcasts, and its trace has no more"],
+        ["17 QueueEmpty: nothing is on its way: processor 1 has made 0 broadcasts, and its trace has no"],
     ),
     "an own queue": (
         "line",
         [[receive(0, 0), *CLOSED]],
         "refused at w0, line 1: ",
-        ["17 QueueEmpty: nothing is on its way: processor 0 has made 0 broadcasts, and its trace has 1 more"],
+        ["17 QueueEmpty: nothing is on its way: processor 0 has made 0 broadcasts, and its trace has 1"],
     ),
     "a part that is not admissible": (
         "line",
         [[feed(0, "a", [5], "close"), broadcast(0, part=[["a", [0]]])]],
         "refused at w0, line 2: processor 0 broadcasts what is unsent at a (0)",
-        ["16 NotAdmissible: az (0) would be left out", "strictly before it are these entries of the part: a (0): -1"],
+        [
+            "16 NotAdmissible: az (0) would be left out",
+            "strictly before it are these entries of the part: a (0): -1",
+        ],
     ),
     "a notification that is too early": (
         "sums",
@@ -456,8 +462,8 @@ WRONG = {
         "refused at w0, line 3: processor 0 runs the notification of total (0)",
         [
             "10 NotYet: processor 0's view has words (0) strictly before total (0)",
-            "it still counts 1 at words (0); nothing is held there; not heard: an update of -1 by processor 0,"
-            " not yet broadcast",
+            "it still counts 1 at words (0); nothing is held there; not heard: an update of -1 by processor"
+            " 0, not yet broadcast",
         ],
     ),
     "traces that wait for each other": (
@@ -467,7 +473,10 @@ WRONG = {
             [receive(0, 1), feed(1, "a", [], "close"), broadcast(1)],
         ],
         "the traces wait for each other: no line of them can be executed next\nrefused at w0, line 1: ",
-        ["17 QueueEmpty: ", "processor 1 has made 0 broadcasts, and its trace has 1 more", "waits at w1, line 1: "],
+        [
+            "17 QueueEmpty: nothing is on its way: processor 1 has made 0 broadcasts, and its trace has 1",
+            "waits at w1, line 1: ",
+        ],
     ),
     "a receive that depends": (
         "line",
@@ -503,7 +512,7 @@ WRONG = {
         "distinct",
         [[take(0, "d-z", [0], 2)], [feed(1, "a", [4], "close"), take(1, "a-d", [0], 4)]],
         "refused at w0, line 1: ",
-        ["8 NoRecord: processor 0 has no record of value 2 at d-z (0), and no processor has one at any time"],
+        ["processor 0 has no record of value 2 at d-z (0), and no processor has one at any time"],
     ),
     "a take from a sum that depends": (
         "sum",
@@ -545,80 +554,82 @@ WRONG = {
 # The graph, the traces, how the words begin, and why.
 UNREADABLE = {
     "another command": (
-        "line", [[{"do": "back"}]], 'unreadable at w0, line 1: {"do": "back"}', '"back" is no line of a trace'
+        "line", [[{"do": "back"}]], 'w0, line 1: {"do": "back"}', '"back" is no line of a trace'
     ),
     "another query": (
-        "line", [[{"do": "state"}]], "unreadable at w0, line 1", '"state" is no line of a trace'
+        "line", [[{"do": "state"}]], "w0, line 1", '"state" is no line of a trace'
     ),
-    "a word that is none": ("line", [[{"do": "tke"}]], "unreadable at w0, line 1", "31 BadShape"),
+    "a word that is none": ("line", [[{"do": "tke"}]], "w0, line 1", "31 BadShape"),
     "another worker": (
-        "line", [[feed(1, "a", [], "close")], []], "unreadable at w0, line 1",
+        "line", [[feed(1, "a", [], "close")], []], "w0, line 1",
         '"p" is 1, and this is the trace of worker 0',
     ),
     "a receive into another worker": (
-        "line", [[], [receive(1, 0)]], "unreadable at w1, line 1", '"to" is 0, and this is the trace of worker 1'
+        "line", [[], [receive(1, 0)]], "w1, line 1", '"to" is 0, and this is the trace of worker 1'
     ),
-    "a query of another worker": ("line", [[view(1, [])]], "unreadable at w0, line 1", '"q" is 1'),
+    "a query of another worker": ("line", [[view(1, [])]], "w0, line 1", '"q" is 1'),
     "an unknown name": (
-        "line", [[take(0, "ax", [0], 5)]], "unreadable at w0, line 1",
+        "line", [[take(0, "ax", [0], 5)]], "w0, line 1",
         '32 UnknownName: "ax" is no name of the graph; wanted is an edge; the nearest is "az"',
     ),
     "a time of another depth": (
-        "line", [[take(0, "az", [CLOCK, 0], 5)]], "unreadable at w0, line 1",
-        f'34 BadTime: the time [{CLOCK},0] has 2 numbers; at "az", which lies in no loop, a time has 1 number',
+        "line", [[take(0, "az", [CLOCK, 0], 5)]], "w0, line 1",
+        f'34 BadTime: the time [{CLOCK},0] has 2 numbers; at "az", which lies in no loop, a time has 1',
     ),
-    "no JSON": ("line", [["{", take(0, "az", [0], 5)]], "unreadable at w0, line 1: {", "30 BadLine: it breaks"),
-    "no object": ("line", [["5"]], "unreadable at w0, line 1: 5", "31 BadShape"),
-    "a missing key": ("line", [[{"do": "take", "p": 0}]], "unreadable at w0, line 1", "31 BadShape"),
-    "a key of a query": ("line", [[broadcast(0, **{"is": {}})]], "unreadable at w0, line 1", '31 BadShape: the key "is"'),
+    "no JSON": ("line", [["{", take(0, "az", [0], 5)]], "w0, line 1: {", "30 BadLine: it breaks"),
+    "no object": ("line", [["5"]], "w0, line 1: 5", "31 BadShape"),
+    "a missing key": ("line", [[{"do": "take", "p": 0}]], "w0, line 1", "31 BadShape"),
+    "a key of a query": (
+        "line", [[broadcast(0, **{"is": {}})]], "w0, line 1", '31 BadShape: the key "is"'
+    ),
     "a number at a take": (
-        "line", [[take(0, "az", [0], 5, number=1)]], "unreadable at w0, line 1", '31 BadShape: the key "number"'
+        "line", [[take(0, "az", [0], 5, number=1)]], "w0, line 1", '31 BadShape: the key "number"'
     ),
     "a value that is not whole": (
-        "line", [['{"do":"take","p":0,"edge":"az","time":[0],"value":-0}']], "unreadable at w0, line 1",
+        "line", [['{"do":"take","p":0,"edge":"az","time":[0],"value":-0}']], "w0, line 1",
         "31 BadShape",
     ),
     "an epoch above all": (
-        "line", [[take(0, "az", [2**64], 5)]], "unreadable at w0, line 1", "31 BadShape"
+        "line", [[take(0, "az", [2**64], 5)]], "w0, line 1", "31 BadShape"
     ),
     "a number below 0": (
-        "line", [[broadcast(0, number=-1)]], "unreadable at w0, line 1", '"number" is -1; it is to be'
+        "line", [[broadcast(0, number=-1)]], "w0, line 1", '"number" is -1; it is to be'
     ),
     "a change that is no list": (
-        "line", [[broadcast(0, change={})]], "unreadable at w0, line 1", '"change" is {}; it is to be a list'
+        "line", [[broadcast(0, change={})]], "w0, line 1", '"change" is {}; it is to be a list'
     ),
     "an entry that is none": (
-        "line", [[broadcast(0, change=[["a", [0]]])]], "unreadable at w0, line 1", '"change" has ["a",[0]]; an entry'
+        "line", [[broadcast(0, change=[["a", [0]]])]], "w0, line 1", '"change" has ["a",[0]]; an entry'
     ),
     "a change at no location": (
-        "line", [[broadcast(0, change=[["b", [0], 1]])]], "unreadable at w0, line 1",
+        "line", [[broadcast(0, change=[["b", [0], 1]])]], "w0, line 1",
         '"change" names "b", which is no name of the graph',
     ),
     "a change at no time": (
-        "line", [[receive(0, 0, change=[["a", [0, 0], 1]])]], "unreadable at w0, line 1",
+        "line", [[receive(0, 0, change=[["a", [0, 0], 1]])]], "w0, line 1",
         '"change" has the time [0,0] at "a", where a time has 1 number',
     ),
     "members that are none": (
-        "line", [[{"do": "view", "q": 0, "is": []}]], "unreadable at w0, line 1", '"is" is []; it is to be an object'
+        "line", [[{"do": "view", "q": 0, "is": []}]], "w0, line 1", '"is" is []; it is to be an object'
     ),
     "a view of no location": (
-        "line", [[view(0, [["b", [0], 1]])]], "unreadable at w0, line 1", '"view" names "b"'
+        "line", [[view(0, [["b", [0], 1]])]], "w0, line 1", '"view" names "b"'
     ),
     "a frontier at no time": (
         "line", [[{"do": "frontier", "q": 0, "at": "z", "is": {"times": [[0, 0]]}}]],
-        "unreadable at w0, line 1", '"is" has the time [0,0] at "z"',
+        "w0, line 1", '"is" has the time [0,0] at "z"',
     ),
     "a note that is no text": (
-        "line", [[broadcast(0, note=5)]], "unreadable at w0, line 1", '"note" is 5; it is to be a text'
+        "line", [[broadcast(0, note=5)]], "w0, line 1", '"note" is 5; it is to be a text'
     ),
     "a long line": (
-        "line", [[broadcast(0, note="x" * 65536)]], "unreadable at w0, line 1", "33 LineTooLong: the line has 655"
+        "line", [[broadcast(0, note="x" * 65536)]], "w0, line 1", "33 LineTooLong: the line has 655"
     ),
     "the first file, then the first line": (
-        "line", [[feed(0, "a", [], "close"), "{", "{"], ["{"]], "unreadable at w0, line 2", "30 BadLine"
+        "line", [[feed(0, "a", [], "close"), "{", "{"], ["{"]], "w0, line 2", "30 BadLine"
     ),
     "before a line that is refused": (
-        "line", [[take(0, "az", [0], 5), *CLOSED, {"do": "redo"}]], "unreadable at w0, line 4", '"redo" is no line'
+        "line", [[take(0, "az", [0], 5), *CLOSED, {"do": "redo"}]], "w0, line 4", '"redo" is no line'
     ),
-    "a blank line counts": ("line", [["", " \t", "{", ""]], "unreadable at w0, line 3", "30 BadLine"),
+    "a blank line counts": ("line", [["", " \t", "{", ""]], "w0, line 3", "30 BadLine"),
 }  # fmt: skip

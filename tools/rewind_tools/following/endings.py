@@ -7,8 +7,8 @@
     ending.status                the exit status
 
 A line that waits *depends* on another's if a line that another worker has not executed could end that: a
-broadcast that is to be received, a receive that makes room in a queue, or a line that makes the record. If no
-line is wrong, the workers whose lines wait all wait for each other."""
+broadcast that is to be received, a receive that makes room in a queue, or a line that makes the record. If
+no line is wrong, the workers whose lines wait all wait for each other."""
 import json
 from typing import NamedTuple
 

@@ -1,7 +1,7 @@
 """The facts that explain a refusal: where a record is, how many broadcasts there were, which entry supported
 the point that was left out, and why a time is not finished.
 
-    refused(words, line, value, reply)      why a line was refused, in sentences; [] if tools/tell has the words
+    refused(words, line, value, reply)      why a line was refused, in sentences; none if tools/tell has them
     why(words, line, asked)                 why a time is not finished, in sentences"""
 from rewind_tools.following.steps import ports_words
 from rewind_tools.telling.answers import inadmissible, no_capability, not_yet
@@ -40,7 +40,7 @@ def no_record(words, line, value, reply):
 
 def queue_empty(words, line, value, reply):
     """How many broadcasts the sender made."""
-    p, q = value["from"], value["to"]
+    p = value["from"]
     made = counted(words.merging.sent[p], "broadcast")
     rest = sum(it.word == "broadcast" for it in words.merging.lines[p][words.merging.at[p] :])
     more = f"{rest} more" if rest else "no more"

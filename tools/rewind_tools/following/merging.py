@@ -14,7 +14,7 @@ taken back (checking.py). A plan leaves two things open, and no line in a batch 
   line of its worker in the batch. If there is no record, it is tried again after another worker has executed
   a line of that vertex.
 - A broadcast that has a number and no change, and may have nothing to send: then it is passed over. No
-  receive of it is in the batch, and no line after it has a change, whose position in the run is not known."""
+  receive of it is in the batch, and no line after it has a change: its position in the run is not known."""
 from collections import Counter
 
 # How many lines a batch has, and how many of one worker before the next worker's turn.

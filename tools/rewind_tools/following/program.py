@@ -52,7 +52,7 @@ class Program:
         for begin in range(0, len(texts), PIECE):
             for reply in self.ask(texts[begin : begin + PIECE]):
                 if not reply.startswith(b'{"at":'):
-                    raise Fault(f"the program has refused a line that it had executed: {reply.decode().strip()}")
+                    raise Fault(f"a line that was executed is refused now: {reply.decode().strip()}")
 
     def close(self):
         self.session.close()

@@ -5,8 +5,9 @@
 
 Each Line has what a plan needs and no more, since there may be a million: the worker and the number in its
 file, the word, the script's line with ranks for epochs, what the line waits for, the records that it makes,
-and what its own keys say. The program says which lines there are: it is asked each as one of a processor that
-is not there, which it refuses without changing anything; a line that it cannot read has another reply."""
+and what its own keys say. The program says which lines there are: it is given each as one of a processor
+that is not there, which it refuses without changing anything. A line that it cannot read has another
+reply."""
 import json
 from typing import NamedTuple
 
@@ -26,8 +27,8 @@ NO_LINE = b"0"
 
 
 class Unreadable(Exception):
-    """A line is none of its worker's trace: the trace, the line's number, and either the program's reply with
-    the line that it was given, or why in words."""
+    """A line is none of its worker's trace: the trace, the line's number, and either why in words, or the
+    program's reply and the line that it was given."""
 
     def __init__(self, trace, number, why=None, reply=None, given=None):
         super().__init__(why)
@@ -119,8 +120,8 @@ class Reader:
         """A line's text, about a processor that is not there."""
         if not isinstance(value, dict) or not isinstance(value.get("do"), str):
             return text
-        key = worker_key(value["do"])
-        return text.replace(b'"%s":%d' % (key.encode(), self.trace.worker), b'"%s":%d' % (key.encode(), NOBODY))
+        key = worker_key(value["do"]).encode()
+        return text.replace(b'"%s":%d' % (key, self.trace.worker), b'"%s":%d' % (key, NOBODY))
 
     def line(self, number, value, own, text):
         """The Line of a value that the program reads."""

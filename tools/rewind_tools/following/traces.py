@@ -2,7 +2,7 @@
 
     trace = Trace("worker-0.jsonl", 0)      the file's lines, as worker 0's
     trace.lines                             (number, bytes) for each line that is not blank
-    trace.cut                               the number of a last line that was cut off and is left out, or None
+    trace.cut                               the number of a last line that was cut off, and is left out
     trace.value(12)                         line 12 as it stands
     own_of(value)                           takes the keys of a trace out of a line, which then is a script's
     own_fault(value, own, worker, places)   why a line is none of that worker's trace, in words; or None"""
@@ -13,6 +13,7 @@ from rewind_tools.following.epochs import is_whole
 from rewind_tools.runs import json_of
 from rewind_tools.script import FORMS
 from rewind_tools.telling.forms import listed
+from rewind_tools.telling.names import numbers
 from rewind_tools.telling.values import shown, value_of
 
 STEPS = ("feed", "take", "send", "release", "notice", "broadcast", "receive")
@@ -151,7 +152,7 @@ def point_fault(key, point, places):
     is_time = isinstance(time, list) and len(time) == wanted and is_whole(time[0])
     if is_time and all(is_whole(it, MOST_COUNTER) for it in time[1:]):
         return None
-    return f'"{key}" has the time {shown(time)} at {shown(name)}, where a time has {wanted} whole numbers'
+    return f'"{key}" has the time {shown(time)} at {shown(name)}, where a time has {numbers(wanted)}'
 
 
 FAULTS = {"number": number_fault, "change": change_fault, "is": is_fault, "note": note_fault}

@@ -29,7 +29,8 @@ def wrong(unreadable, text, teller):
     """What is wrong with a line that the program does not read: of its names and times as they stand, of its
     form with epochs by rank."""
     value = json_of(text)
-    if not isinstance(value, dict) or not isinstance(value.get("do"), str):
+    is_too_long = unreadable.reply["error"] == "LineTooLong"
+    if is_too_long or not isinstance(value, dict) or not isinstance(value.get("do"), str):
         return faults.line_faults(text, unreadable.reply, teller)
     own_of(value)
     if value["do"] not in FORMS and program_knows_more(teller):

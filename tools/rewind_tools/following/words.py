@@ -10,7 +10,7 @@ from rewind_tools.following.endings import DIFFERS, FOLLOWED, TOO_LONG
 from rewind_tools.following.steps import step_words
 from rewind_tools.following.traces import own_of
 from rewind_tools.telling import names
-from rewind_tools.telling.answers import Teller, points
+from rewind_tools.telling.answers import Teller
 from rewind_tools.telling.commands import at, counted, some_of, time_in
 from rewind_tools.telling.printing import BOLD, RED
 from rewind_tools.telling.values import shown
@@ -35,10 +35,10 @@ class Words:
     def of(self, ending):
         said = []
         if ending.name == FOLLOWED:
-            said.append(("followed: each line of the traces is one that the protocol allows", 0, BOLD))
+            said.append(("followed: the protocol allows each line of the traces", 0, BOLD))
         elif ending.name == TOO_LONG:
-            full = f"the timeline is full at {counted(self.follower.position, 'step')}"
-            said.append((f"too long: {full}; up to there each line is one that the protocol allows", 0, BOLD))
+            full = f"too long: the timeline is full at {counted(self.follower.position, 'step')}"
+            said.append((f"{full}; up to there the protocol allows each line", 0, BOLD))
         elif not ending.wrongs:
             said.append(("the traces wait for each other: no line of them can be executed next", 0, BOLD))
         for wrong in ending.wrongs:
