@@ -89,7 +89,7 @@ class Epochs:
         """Puts ranks for the epochs of a line."""
         for time in times_of(value):
             time[0] = self.ranks[time[0]]
-        following = value.get("next")
+        following = value.get("next") if value.get("do") == "feed" else None
         if isinstance(following, dict) and is_whole(following.get("to")):
             following["to"] = self.ranks[following["to"]]
 

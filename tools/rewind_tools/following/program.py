@@ -5,8 +5,6 @@
     program.asked({"do": "state"})              the reply to one line, as a value
     program.again([b"..", ..])                  a new process, which executes these lines first
     program.close()"""
-import json
-
 from rewind_tools import opening
 from rewind_tools.session import Session, VersionRefused
 from rewind_tools.tool import Fault
@@ -56,7 +54,3 @@ class Program:
 
     def close(self):
         self.session.close()
-
-
-def value_of(reply):
-    return json.loads(reply)

@@ -13,6 +13,7 @@ from typing import NamedTuple
 
 from rewind_tools.following.epochs import Tokens
 from rewind_tools.following.traces import own_fault, own_of, parsed, worker_key
+from rewind_tools.tool import Fault
 
 LONGEST = 65_536
 # A processor that is not there, and the program's reply to a right line about it.
@@ -113,8 +114,11 @@ class Reader:
         for (number, _, own, text), reply in zip(piece, self.program.ask(asked)):
             if isinstance(own, str):
                 raise Unreadable(self.trace, number, own)
-            if reply != NO_PROCESSOR and LOG_FULL not in reply:
-                raise Unreadable(self.trace, number, None, json.loads(reply), text)
+            if reply == NO_PROCESSOR or LOG_FULL in reply:
+                continue
+            if b'"line":' not in reply:
+                raise Fault(f"the program gives line {number} the reply {reply.decode().strip()}")
+            raise Unreadable(self.trace, number, None, json.loads(reply), text)
 
     def of_nobody(self, value, text):
         """A line's text, about a processor that is not there."""
