@@ -53,15 +53,18 @@ class Session:
         watching = threading.Thread(target=self.pass_notes, args=[on_note or (lambda it: None), has_started])
         watching.start()
         try:
-            if "error" in self.ask({"version": version}):
-                raise VersionRefused(self.end_words())
-            self.started = self.ask(graph)
+            is_refused = "error" in self.ask({"version": version})
+            self.started = None if is_refused else self.ask(graph)
         except KeyboardInterrupt:
             self.kill()
             raise
         finally:
             has_started.set()
             watching.join()
+        if is_refused:
+            said = self.end_words()
+            self.close()
+            raise VersionRefused(said)
 
     def ask(self, value):
         return self.ask_all([value])[0]

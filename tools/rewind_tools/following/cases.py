@@ -332,7 +332,7 @@ WRONG = {
         "differs at w0, line 2: ",
         [
             '"change" differs: the trace has words-total (0): 2; it lacks words-total (0): 3',
-            "waits at w1, line 3: ",
+            "waits at w1, line 6: ",
         ],
     ),
     "the change of a receive": (

@@ -63,7 +63,8 @@ class Follower:
         """Gives the program the line of each worker that waits; whether that led to anything."""
         self.waiting = {}
         before = self.position, list(self.merging.at), len(self.wrong)
-        self.execute(self.merging.trial())
+        for worker in self.merging.workers:
+            self.execute(self.merging.trial(worker))
         return before != (self.position, self.merging.at, len(self.wrong))
 
     def execute(self, batch):

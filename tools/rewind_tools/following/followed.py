@@ -1,10 +1,10 @@
 """A run of another program, from its traces to its ending.
 
-    run = Run(graph, ["worker-0.jsonl", ..], on_note)      GraphRefused, if the program refuses the graph
-    for text, indent, colour in run.follow(): ..           what is said of it
-    run.left()                                             what a run that is followed leaves, in sentences
-    run.status                                             the exit status
-    run.is_read                                            whether the traces could be read
+    run = Run(graph, [Trace("worker-0.jsonl", 0), ..], on_note)      GraphRefused, if the program refuses it
+    for text, indent, colour in run.follow(): ..      what is said of it
+    run.left()                                        what a run that is followed leaves, in sentences
+    run.status                                        the exit status
+    run.is_read                                       whether the traces could be read
     run.close()"""
 from rewind_tools.following import unreadable
 from rewind_tools.following.checking import Follower
@@ -15,15 +15,14 @@ from rewind_tools.following.merging import Merging
 from rewind_tools.following.places import Places
 from rewind_tools.following.program import Program
 from rewind_tools.following.reading import Unreadable, read
-from rewind_tools.following.traces import Trace
 from rewind_tools.following.words import Words
 
 
 class Run:
-    def __init__(self, graph, paths, on_note):
-        self.traces = [Trace(path, worker) for worker, path in enumerate(paths)]
-        self.program = Program(graph, len(paths), on_note)
-        self.epochs, self.places = Epochs(), Places(graph, len(paths))
+    def __init__(self, graph, traces, on_note):
+        self.traces = traces
+        self.program = Program(graph, len(traces), on_note)
+        self.epochs, self.places = Epochs(), Places(graph, len(traces))
         self.follower = self.ending = self.fault = None
 
     def follow(self):

@@ -2,7 +2,7 @@
 
     merging = Merging(lines, places)
     batch = merging.plan(100)         the next lines, with at most so many steps among them
-    merging.trial()                   in place of it, if it is empty: the next line of each worker that waits
+    merging.trial(0)                  in place of it, if it is empty: the next line of a worker that waits
 
 A plan goes round the workers, and takes the next lines of each until one waits. It counts the records on the
 edges that leave inputs, opaque vertices and most others, and the changes in each queue; so a take or a
@@ -107,13 +107,11 @@ class Merging:
         if kind != LAST:
             self.apply(line, kind)
 
-    def trial(self):
-        """The next line of each worker that waits, so that the program says why."""
-        batch = Batch(len(self.workers))
-        for worker in self.workers:
-            line = self.next_line(worker)
-            if line is not None and self.stop_of(line) is None:
-                self.plan_line(line, LAST, batch)
+    def trial(self, worker):
+        """The next line of a worker, if it waits, so that the program says why."""
+        batch, line = Batch(1), self.next_line(worker)
+        if line is not None and self.stop_of(line) is None:
+            self.plan_line(line, LAST, batch)
         return batch
 
     def kind_of(self, line):

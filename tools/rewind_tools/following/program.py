@@ -21,7 +21,8 @@ class GraphRefused(Exception):
 
 class Program:
     def __init__(self, graph, workers, on_note):
-        self.graph, self.words, self.on_note = graph, ["--processors", str(workers)], on_note
+        self.graph, self.words = graph, ["--processors", str(workers)]
+        self.on_note, self.noted = on_note, set()
         self.session = self.opened()
         why = opening.graph_refused(self.session)
         if why:
@@ -32,10 +33,16 @@ class Program:
     def opened(self):
         for version in VERSIONS[:-1]:
             try:
-                return Session(self.graph, self.words, version, self.on_note)
+                return Session(self.graph, self.words, version, self.note)
             except VersionRefused:
                 pass
-        return Session(self.graph, self.words, VERSIONS[-1], self.on_note)
+        return Session(self.graph, self.words, VERSIONS[-1], self.note)
+
+    def note(self, text):
+        """Passes a note of ./rewind on, once for all processes."""
+        if text not in self.noted:
+            self.noted.add(text)
+            self.on_note(text)
 
     def ask(self, texts):
         return self.session.ask_lines(texts)

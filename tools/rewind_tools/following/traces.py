@@ -38,11 +38,15 @@ class Trace:
         self.split, self.cut = None, None
         numbered = enumerate(self.bytes.split(b"\n"), 1)
         self.lines = [(number, text) for number, text in numbered if text.strip(b" \t\r")]
-        if self.lines and not self.bytes.endswith(b"\n") and parsed(self.lines[-1][1]) is None:
-            last = self.lines[-1]
-            if last[0] == self.bytes.count(b"\n") + 1:
-                self.cut = last[0]
-                self.lines.pop()
+        if self.is_cut_off():
+            self.cut, _ = self.lines.pop()
+
+    def is_cut_off(self):
+        """Whether the last line has no newline, and is no JSON."""
+        if not self.lines or self.lines[-1][0] <= self.bytes.count(b"\n"):
+            return False
+        text = self.lines[-1][1]
+        return parsed(text) is None and text.strip() != b"null"
 
     def text(self, number):
         """A line's bytes."""
