@@ -417,6 +417,12 @@ WRONG = {
         "differs at w0, line 1: ",
         ['"passed" is true in the trace; the reply does not have it'],
     ),
+    "reasons of another query": (
+        "line",
+        [[{"do": "view", "q": 0, "is": {"reasons": [], "times": [[0]], "view": [["a", [0], 1]]}}]],
+        "differs at w0, line 1: ",
+        ['"reasons" is [] in the trace; the reply does not have it', '"times" is [[0]] in the trace; the'],
+    ),
     "a record on another worker": (
         "sums",
         [[feed(0, "words", [1], "close"), take(0, "words-total", [0], 1)], []],

@@ -106,7 +106,7 @@ class Epochs:
     def told_member(self, key, value):
         if key in TIMES and isinstance(value, list) and value and type(value[0]) is int:
             return self.epoch(value)
-        if key == "times":
+        if key == "times" and isinstance(value, list):
             return [self.epoch(time) for time in value]
         if key == "tokens":
             return [[vertex, self.order[epoch]] for vertex, epoch in value]

@@ -5,8 +5,9 @@
     program.asked({"do": "state"})              the reply to one line, as a value
     program.again([b"..", ..])                  a new process, which executes these lines first
     program.close()"""
-from rewind_tools import opening
 from rewind_tools.session import Session, VersionRefused
+from rewind_tools.telling.faults import faulty
+from rewind_tools.telling.graph_faults import graph_faults
 from rewind_tools.tool import Fault
 
 # The versions in which a run can be followed, the last first.
@@ -16,7 +17,11 @@ PIECE = 2_000
 
 
 class GraphRefused(Exception):
-    """The program has refused the graph: its text says why."""
+    """The program has refused the graph, or there is none: why, in sentences."""
+
+    def __init__(self, *sentences):
+        super().__init__("; ".join(sentences))
+        self.sentences = sentences
 
 
 class Program:
@@ -24,11 +29,10 @@ class Program:
         self.graph, self.words = graph, ["--processors", str(workers)]
         self.on_note, self.noted = on_note, set()
         self.session = self.opened()
-        why = opening.graph_refused(self.session)
-        if why:
+        self.version, reply = self.session.version, self.session.started
+        if "error" in reply:
             self.close()
-            raise GraphRefused(why)
-        self.version = self.session.version
+            raise GraphRefused(*faulty(reply, graph_faults(graph, reply, self.version)))
 
     def opened(self):
         for version in VERSIONS[:-1]:

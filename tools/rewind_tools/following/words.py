@@ -83,7 +83,7 @@ class Words:
         said = []
         for key, got in reply.items():
             asked = own["is"][key]
-            if key == "reasons":
+            if key == "reasons" and got is not None:
                 asked, got = map(entries_of_reasons, (asked, got))
             said += apart(key, asked, got)
         if reply.get("passed") is False:
