@@ -566,6 +566,7 @@ UNREADABLE = {
         "line", [[{"do": "state"}]], "w0, line 1", '"state" is no line of a trace'
     ),
     "a word that is none": ("line", [[{"do": "tke"}]], "w0, line 1", "31 BadShape"),
+    "a word that is no text": ("line", [[{"do": ["take"], "p": 0}]], "w0, line 1", "31 BadShape"),
     "another worker": (
         "line", [[feed(1, "a", [], "close")], []], "w0, line 1",
         '"p" is 1, and this is the trace of worker 0',

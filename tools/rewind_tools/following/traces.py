@@ -87,7 +87,9 @@ def worker_key(word):
 def own_fault(value, own, worker, places):
     """Why a line that the program may have read is none of a worker's trace; None if it is one."""
     word = value.get("do")
-    if isinstance(word, str) and word not in STEPS + QUERIES:
+    if not isinstance(word, str):
+        return None
+    if word not in STEPS + QUERIES:
         known = f'a trace has the lines {listed(map(shown, STEPS + QUERIES))}'
         return f"{shown(word)} is no line of a trace; {known}" if word in FORMS else None
     key = worker_key(word)
