@@ -638,5 +638,11 @@ UNREADABLE = {
     "before a line that is refused": (
         "line", [[take(0, "az", [0], 5), *CLOSED, {"do": "redo"}]], "w0, line 4", '"redo" is no line'
     ),
+    "a key that is too many, after a line that is refused": (
+        "line", [[take(0, "az", [0], 5), broadcast(0, at=1)]], "w0, line 2", '31 BadShape: the key "at"'
+    ),
+    "a key that is too many, at a receive that is passed over": (
+        "line", [[broadcast(0, number=1), receive(0, 0, number=1, at=1)]], "w0, line 2", "31 BadShape"
+    ),
     "a blank line counts": ("line", [["", " \t", "{", ""]], "w0, line 3", "30 BadLine"),
 }  # fmt: skip

@@ -10,12 +10,14 @@
 A batch is planned as if none of its lines were refused (merging.py). At the first that is, or that differs,
 the run goes back to the position before it; it and all that follows it in the batch count as not executed,
 and the next batch is planned from there. The queries of a batch are answered at their place in it, since the
-program answers in the order of the lines."""
+program answers in the order of the lines. A receive that is passed over is given to the program as one of
+nobody (reading.py)."""
 import json
 from typing import NamedTuple
 
 from rewind_tools.following.comparing import change_of, different_members
 from rewind_tools.following.merging import LAST, PASSED, STEPS, may_be_nothing
+from rewind_tools.following.reading import is_unread, of_nobody
 from rewind_tools.tool import Fault
 
 MOST_STEPS = 1_000_000
@@ -85,7 +87,9 @@ class Follower:
         texts, widths, position = [], [], self.position
         for item in batch.items:
             line, count = item.line, len(texts)
-            if item.kind != PASSED:
+            if item.kind == PASSED:
+                texts.append(of_nobody(line.word, line.worker, line.text))
+            else:
                 texts.append(line.text)
                 position += line.word in STEPS
                 if line.own.change is not None:
@@ -97,7 +101,7 @@ class Follower:
         """Compares the replies to an item with what its line says; None if the next is to be looked at."""
         line = item.line
         if item.kind == PASSED:
-            return None
+            return Wrong("refused", line, json.loads(replies[0])) if is_unread(replies[0]) else None
         if line.word not in STEPS:
             return self.judged_query(line, json.loads(replies[0]))
         if replies[0] != b'{"at":%d,"kept":%d,"ok":true}\n' % (self.position + 1, self.position + 1):

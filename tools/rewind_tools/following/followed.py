@@ -14,7 +14,7 @@ from rewind_tools.following.left import left_of, left_words
 from rewind_tools.following.merging import Merging
 from rewind_tools.following.places import Places
 from rewind_tools.following.program import Program
-from rewind_tools.following.reading import Unreadable, read
+from rewind_tools.following.reading import Unreadable, check, read
 from rewind_tools.following.words import Words
 
 
@@ -27,13 +27,15 @@ class Run:
 
     def follow(self):
         """Reads and executes the traces; returns what is said of that."""
+        at_hand = self.traces, self.epochs, self.places, self.program
         try:
-            lines = read(self.traces, self.epochs, self.places, self.program)
+            merging = Merging(read(*at_hand), self.places)
+            self.follower = Follower(self.program, merging)
+            self.follower.follow()
+            check(*at_hand, merging.at)
         except Unreadable as fault:
             self.fault = fault
             return unreadable.said(fault, self.program, len(self.traces))
-        self.follower = Follower(self.program, Merging(lines, self.places))
-        self.follower.follow()
         self.ending = ending_of(self.follower)
         return Words(self.follower, self.traces, self.epochs, self.program).of(self.ending)
 

@@ -1,25 +1,27 @@
 """Reads traces: the lines that the program is to execute, with what else each says.
 
-    lines = read(traces, epochs, places, program)      a list of Lines for each trace; Unreadable, if a line
-                                                       is none of its worker's trace
+    lines = read(traces, epochs, places, program)      a list of Lines for each trace; Unreadable, if one is
+                                                       seen to be none of its worker's trace
+    check(traces, epochs, places, program, [7, 0])     Unreadable, if the program does not read a line, the
+                                                       first 7 of the first trace aside
 
 Each Line has what a plan needs and no more, since there may be a million: the worker and the number in its
 file, the word, the script's line with ranks for epochs, what the line waits for, the records that it makes,
-and what its own keys say. The program says which lines there are: it is given each as one of a processor
-that is not there, which it refuses without changing anything. A line that it cannot read has another
-reply."""
+and what its own keys say.
+
+The program says which lines there are. Those that it has executed it reads; it is given each of the others
+as one of a processor that is not there. That is refused without a change, and a line that the program does
+not read has another reply."""
 import json
 from typing import NamedTuple
 
-from rewind_tools.following.epochs import Tokens
-from rewind_tools.following.traces import own_fault, own_of, parsed, worker_key
+from rewind_tools.following.epochs import Tokens, is_whole
+from rewind_tools.following.traces import QUERIES, STEPS, own_fault, own_of, parsed, worker_key
 from rewind_tools.tool import Fault
 
 LONGEST = 65_536
-# A processor that is not there, and the program's reply to a right line about it.
+# A processor that is not there.
 NOBODY = 2**32 - 1
-NO_PROCESSOR = b'{"code":1,"error":"NoProcessor"}\n'
-LOG_FULL = b'"LogFull"'
 # How many lines the program is asked at once.
 PIECE = 2_000
 NOTHING = ()
@@ -79,6 +81,10 @@ def add_epochs(traces, epochs):
     epochs.close()
 
 
+class NoLine(Exception):
+    """A line is none of its worker's trace, as can be seen without the program."""
+
+
 class Reader:
     """Reads the lines of one trace."""
 
@@ -88,10 +94,14 @@ class Reader:
 
     def read(self):
         lines = []
-        for begin in range(0, len(self.trace.lines), PIECE):
-            piece = [self.prepared(*it) for it in self.trace.lines[begin : begin + PIECE]]
-            self.check(piece)
-            lines += [self.line(*it) for it in piece]
+        for it in self.trace.lines:
+            number, value, own, text = self.prepared(*it)
+            if isinstance(own, str):
+                raise NoLine
+            try:
+                lines.append(self.line(number, value, own, text))
+            except (LookupError, TypeError, AttributeError, ValueError) as wrong:
+                raise NoLine from wrong
         return lines
 
     def prepared(self, number, text):
@@ -108,28 +118,30 @@ class Reader:
             self.epochs.rank(own)
         return number, value, own, compact(value)
 
-    def check(self, piece):
-        """Asks the program whether it reads the lines of a piece."""
-        asked = [self.of_nobody(it[1], it[3]) for it in piece]
+    def check(self, begin):
+        """Asks the program whether it reads the lines from a position on."""
+        for at in range(begin, len(self.trace.lines), PIECE):
+            self.check_piece([self.prepared(*it) for it in self.trace.lines[at : at + PIECE]])
+
+    def check_piece(self, piece):
+        asked = [self.asked(*it) for it in piece]
         for (number, _, own, text), reply in zip(piece, self.program.ask(asked)):
             if isinstance(own, str):
                 raise Unreadable(self.trace, number, own)
-            if reply == NO_PROCESSOR or LOG_FULL in reply:
-                continue
-            if b'"line":' not in reply:
-                raise Fault(f"the program gives line {number} the reply {reply.decode().strip()}")
-            raise Unreadable(self.trace, number, None, json.loads(reply), text)
+            if is_unread(reply):
+                raise Unreadable(self.trace, number, None, json.loads(reply), text)
 
-    def of_nobody(self, value, text):
+    def asked(self, number, value, own, text):
         """A line's text, about a processor that is not there."""
         if not isinstance(value, dict) or not isinstance(value.get("do"), str):
             return text
-        key = worker_key(value["do"]).encode()
-        return text.replace(b'"%s":%d' % (key, self.trace.worker), b'"%s":%d' % (key, NOBODY))
+        return of_nobody(value["do"], self.trace.worker, text)
 
     def line(self, number, value, own, text):
-        """The Line of a value that the program reads."""
+        """The Line of a value; NoLine, or another error, if it has not the form of its word."""
         word, worker = value["do"], self.trace.worker
+        if word not in STEPS + QUERIES:
+            raise NoLine
         made = Line(worker, number, word, text)
         if word == "take":
             edge, time = value["edge"], self.time(value["time"])
@@ -144,6 +156,9 @@ class Reader:
             made.needs = value["from"]
         elif word == "notice":
             made.needs = value["vertex"]
+        if word == "receive" and not is_whole(made.needs):
+            raise NoLine
+        hash((word, made.needs, made.makes))  # of other kinds of values there is a TypeError
         if own.keys() - {"note"}:
             change = summed(own["change"]) if "change" in own else None
             made.own = Own(own.get("number"), change, own.get("is"))
@@ -155,6 +170,28 @@ class Reader:
         return self.times.setdefault(key, key)
 
 
+def of_nobody(word, worker, text):
+    """A worker's line as one of a processor that is not there."""
+    key = worker_key(word).encode()
+    return text.replace(b'"%s":%d' % (key, worker), b'"%s":%d' % (key, NOBODY))
+
+
+def is_unread(reply):
+    """Whether a reply says that a line of nobody is none. Any other is a refusal: mostly NoProcessor."""
+    if b'"line":' not in reply and b'"code":' not in reply:
+        raise Fault(f"the program does not refuse a line of nobody: {reply.decode().strip()}")
+    return b'"line":' in reply
+
+
+def check(traces, epochs, places, program, begins):
+    for trace, begin in zip(traces, begins):
+        Reader(trace, epochs, places, program).check(begin)
+
+
 def read(traces, epochs, places, program):
     add_epochs(traces, epochs)
-    return [Reader(it, epochs, places, program).read() for it in traces]
+    try:
+        return [Reader(it, epochs, places, program).read() for it in traces]
+    except NoLine:
+        check(traces, epochs, places, program, [0] * len(traces))
+    raise Fault("the program reads a line that has no form known here")
