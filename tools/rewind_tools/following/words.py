@@ -112,7 +112,7 @@ class Words:
         steps = counted(self.follower.position, "step")
         counts = [(it.path, at, len(it.lines)) for it, at in zip(self.traces, self.merging.at)]
         if ending.name == FOLLOWED:
-            lines = f"{sum(it[1] for it in counts)} lines of {counted(len(counts), 'trace')}"
+            lines = f"{counted(sum(it[1] for it in counts), 'line')} of {counted(len(counts), 'trace')}"
             return [(f"executed: {lines}, {steps}", 0, "")]
         said = [(f"executed: {steps}", 0, "")]
         return said + [(f"{path}: {at} of {counted(count, 'line')}", 4, "") for path, at, count in counts]
