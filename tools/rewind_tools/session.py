@@ -5,6 +5,7 @@
     session.started                     the reply to the graph's line
     session.ask({"do": "candidates"})   the reply to a line; Ended, if the program has ended
     session.ask_all([..])               the replies to many lines, which are written while replies are read
+    session.ask_lines([b"..", ..])      the same of lines given as bytes, the replies as bytes, too
     session.close()
 
     opening, commands = read_script(open(path, "rb").read())      a script's graph, and the commands after it
@@ -25,10 +26,16 @@ from rewind_tools.script import COMMANDS, LAST
 SECONDS_TO_END = 2
 # How often the notes of ./rewind are looked for while the program starts, and how much of them is read.
 SECONDS_BETWEEN, MOST_SAID = 0.5, 1 << 20
+# What a pipe takes at once, however little room the system gives it.
+PIPE_BYTES = 4096
 
 
 class Ended(Exception):
     """The program has ended: its text says how."""
+
+
+class VersionRefused(Ended):
+    """The program does not have the version of the script that it was asked for, and has ended."""
 
 
 class Session:
@@ -46,14 +53,18 @@ class Session:
         watching = threading.Thread(target=self.pass_notes, args=[on_note or (lambda it: None), has_started])
         watching.start()
         try:
-            self.ask({"version": version})
-            self.started = self.ask(graph)
+            is_refused = "error" in self.ask({"version": version})
+            self.started = None if is_refused else self.ask(graph)
         except KeyboardInterrupt:
             self.kill()
             raise
         finally:
             has_started.set()
             watching.join()
+        if is_refused:
+            said = self.end_words()
+            self.close()
+            raise VersionRefused(said)
 
     def ask(self, value):
         return self.ask_all([value])[0]
@@ -64,7 +75,14 @@ class Session:
 
     def ask_texts(self, texts):
         """The replies to lines that are given as bytes, none of them blank, in their order."""
+        return [json.loads(it) for it in self.ask_lines(texts)]
+
+    def ask_lines(self, texts):
+        """The same, each reply as the line that it is."""
         text = b"".join(it + b"\n" for it in texts)
+        if len(text) <= PIPE_BYTES:
+            self.write(text)
+            return [self.read() for _ in texts]
         writer = threading.Thread(target=self.write, args=[text], daemon=True)
         writer.start()
         replies = [self.read() for _ in texts]
@@ -82,7 +100,7 @@ class Session:
         line = self.process.stdout.readline()
         if not line.endswith(b"\n"):
             raise Ended(self.end_words())
-        return json.loads(line)
+        return line
 
     def said(self):
         """What the program has written to standard error so far, without the notes of ./rewind."""

@@ -1,0 +1,164 @@
+"""Executes the lines of the traces, in batches, and compares each reply with what the line says.
+
+    follower = Follower(program, merging)
+    follower.follow()
+    follower.executed             the Lines that were executed, in their order
+    follower.wrong                by worker a Wrong, if a line of it was refused or differs
+    follower.waiting              by worker the program's refusal of a line that waits for others
+    follower.is_full              whether the timeline was full before the traces ended
+
+A batch is planned as if none of its lines were refused (merging.py). At the first that is, or that differs,
+the run goes back to the position before it; it and all that follows it in the batch count as not executed,
+and the next batch is planned from there. The queries of a batch are answered at their place in it, since the
+program answers in the order of the lines. A receive that is passed over is given to the program as one of
+nobody (reading.py)."""
+import json
+from typing import NamedTuple
+
+from rewind_tools.following.comparing import change_of, different_members
+from rewind_tools.following.merging import LAST, PASSED, STEPS, may_be_nothing
+from rewind_tools.following.reading import is_unread, of_nobody
+from rewind_tools.tool import Fault
+
+MOST_STEPS = 1_000_000
+NO_RECORD, NOTHING_TO_SEND, QUEUE_EMPTY, QUEUE_FULL = 8, 15, 17, 18
+# The refusals that another worker's line may end; those that are no refusals of the protocol.
+WAITING, NO_MEMORY = (NO_RECORD, QUEUE_EMPTY, QUEUE_FULL), (19, 29)
+TIMELINE_FULL, LOG_FULL = 23, 27
+
+
+class Wrong(NamedTuple):
+    """A line that was refused, with the program's reply, or that differs, with what is right; and of a query
+    the reply."""
+
+    ending: str
+    line: object
+    reply: dict
+    answer: dict | None = None
+
+
+class Again(NamedTuple):
+    """The program's log is full, or its timeline is: the rest of a batch is to be executed later."""
+
+    code: int
+
+
+class Follower:
+    def __init__(self, program, merging):
+        self.program, self.merging = program, merging
+        self.position, self.executed = 0, []
+        self.wrong, self.waiting, self.is_full = {}, {}, False
+
+    def follow(self):
+        """Executes what can be executed."""
+        while not self.merging.is_done():
+            batch = self.merging.plan(MOST_STEPS - self.position)
+            if batch.items:
+                self.execute(batch)
+            elif self.position == MOST_STEPS:
+                self.is_full = True
+                return
+            elif not self.try_waiting():
+                return
+
+    def try_waiting(self):
+        """Gives the program the line of each worker that waits; whether that led to anything."""
+        self.waiting = {}
+        before = self.position, list(self.merging.at), len(self.wrong)
+        for worker in self.merging.workers:
+            self.execute(self.merging.trial(worker))
+        return before != (self.position, self.merging.at, len(self.wrong))
+
+    def execute(self, batch):
+        texts, widths = self.texts_of(batch)
+        replies = self.program.ask(texts)
+        begin = 0
+        for at, (item, width) in enumerate(zip(batch.items, widths)):
+            outcome = self.judged(item, replies[begin : begin + width])
+            if outcome:
+                steps = [it for it in replies[begin:] if it.startswith(b'{"at":')]
+                self.go_back(batch.items[at:], outcome, bool(steps))
+                break
+            begin += width
+        self.merging.close()
+
+    def texts_of(self, batch):
+        """The lines of a batch for the program, and how many each item has."""
+        texts, widths, position = [], [], self.position
+        for item in batch.items:
+            line, count = item.line, len(texts)
+            if item.kind == PASSED:
+                texts.append(of_nobody(line.word, line.worker, line.text))
+            else:
+                texts.append(line.text)
+                position += line.word in STEPS
+                if line.own.change is not None:
+                    texts.append(b'{"do":"effect","to":%d}' % position)
+            widths.append(len(texts) - count)
+        return texts, widths
+
+    def judged(self, item, replies):
+        """Compares the replies to an item with what its line says; None if the next is to be looked at."""
+        line = item.line
+        if item.kind == PASSED:
+            return Wrong("refused", line, json.loads(replies[0])) if is_unread(replies[0]) else None
+        if line.word not in STEPS:
+            return self.judged_query(line, json.loads(replies[0]))
+        if replies[0] != b'{"at":%d,"kept":%d,"ok":true}\n' % (self.position + 1, self.position + 1):
+            return self.refused(item, json.loads(replies[0]))
+        if line.own.change is not None:
+            moved = change_of(line, self.effect(replies[1]))
+            if moved != line.own.change:
+                entries = [[name, list(time), n] for (name, time), n in moved.items()]
+                return Wrong("differs", line, {"change": entries})
+        self.position += 1
+        self.executed.append(line)
+        self.merging.executed_line(item)
+        return None
+
+    def effect(self, reply):
+        effect = json.loads(reply)
+        if "changed" not in effect:
+            raise Fault(f"the program does not say what a step changed: {effect}")
+        return effect
+
+    def judged_query(self, line, reply):
+        if "error" in reply:
+            return Wrong("refused", line, reply)
+        members = different_members(line, reply) if line.own.answer is not None else {}
+        if members:
+            return Wrong("differs", line, members, reply)
+        self.executed.append(line)
+        return None
+
+    def refused(self, item, reply):
+        """What follows from a refusal."""
+        line, code = item.line, reply.get("code")
+        if code is None:
+            raise Fault(f"the program gives line {line.number} of worker {line.worker} the reply {reply}")
+        if code in NO_MEMORY:
+            raise Fault("the program ran out of memory")
+        if code in (TIMELINE_FULL, LOG_FULL):
+            return Again(code)
+        if code == NOTHING_TO_SEND and may_be_nothing(line):
+            self.merging.pass_over(item)
+        elif item.kind == LAST and code in WAITING:
+            self.waiting[line.worker] = reply
+            self.merging.waits(item)
+        else:
+            return Wrong("refused", line, reply)
+        return None
+
+    def go_back(self, items, outcome, has_moved):
+        """Takes back the items from a wrong one on."""
+        for item in reversed(items):
+            self.merging.undo(item)
+        if isinstance(outcome, Wrong):
+            worker = outcome.line.worker
+            self.wrong[worker], self.merging.has_stopped[worker] = outcome, True
+        if has_moved:
+            reply = self.program.asked({"do": "jump", "to": self.position})
+            if "error" in reply:
+                outcome = Again(reply["code"])
+        if isinstance(outcome, Again):
+            self.program.again([it.text for it in self.executed if it.word in STEPS])
