@@ -1,6 +1,7 @@
 pub mod State
 pub mod Steps
 pub mod Times
+pub mod Batches
 pub mod Values
 pub mod TruthLaws
 pub mod Ranges

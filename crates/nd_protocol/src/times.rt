@@ -5,11 +5,31 @@ use nd_time::Timestamp;
 use std::alloc::{AllocError, Allocator, Global};
 use std::marker::Model;
 
+/// A later time at which a capability is held after a release.
+#[derive(Debug, PartialEq, Eq, Drop)]
+pub struct Later {
+    pub time: Timestamp,
+    /// Whether the capability at the earlier time is kept beside it.
+    pub keep: bool,
+}
+
+impl Later {
+    /// Returns an equal later time.
+    pub fn copy(&self) -> Later
+        ensures { result ≡ self.now }
+    {
+        Later {
+            time: self.time.copy(),
+            keep: self.keep,
+        }
+    }
+}
+
 /// The time at which a capability is held, and the later time to which it moves; `None` if it is dropped.
 #[derive(Debug, PartialEq, Eq, Drop)]
 pub struct Times {
     pub time: Timestamp,
-    pub to: Option<Timestamp>,
+    pub to: Option<Later>,
 }
 
 impl Times {
