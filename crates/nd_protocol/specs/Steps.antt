@@ -153,9 +153,13 @@ batch_time b = unwrap_or b.at b.time
 abbrev pub posts : {A : Type 0} → Dataflow → ℕ → ℕ → ℕ → Batch A → ℤ → List (ℕ × ValueAt)
 posts g n p vertex b v = made_on b.dest n p vertex b.port v (batch_time b) (length g.vertices) g.edges
 
+-- the records that a batch makes, each with its processor
+abbrev pub posted_records : {A : Type 0} → ClusterState → ℕ → ℕ → Batch A → List (ℕ × ValueAt)
+posted_records s p vertex b = flat_map (posts s.graph (length s.processors) p vertex b) b.values
+
 -- a vertex sends the values of a batch
 unfoldable pub posted : {A : Type 0} → ClusterState → ℕ → ℕ → Batch A → List ProcessorState
-posted s p vertex b = with_records s.processors (flat_map (posts s.graph (length s.processors) p vertex b) b.values)
+posted s p vertex b = with_records s.processors (posted_records s p vertex b)
 
 -- ---- the steps
 

@@ -6,7 +6,12 @@ use Rattle.nd_time.specs.Listing.{time_code}
 use Rattle.nd_protocol.specs.declared.times.Later.{Later}
 use Rattle.nd_protocol.specs.declared.times.Times.{Times}
 
--- a capability that moves goes to a time strictly after the one at which it was held
+-- the capability stays beside one at a later time
+abbrev pub Keeps : Option Later → Type 0
+Keeps None = ⊥
+Keeps (Some to) = to.keep ≡ true
+
+-- a capability goes only to a time strictly after the one at which it is held
 abbrev pub GoesLater : Time → Option Later → Type 0
 GoesLater t None = ⊤
 GoesLater t (Some to) = IsAtOrBefore t to.time × (t ≢ to.time)
