@@ -1,5 +1,6 @@
 -- What an enabled step finds; and that it leads from a state to a state.
 use Rattle.std.proofs.Common.{◌≡◌, ◌⊎◌, inl, inr, ℕ, ℤ, pos, List, zero, suc, ◌<◌, ◌≤◌, length, Bool, true, false, cond, Option, Some, None, refl, sym, subst, arith}
+use Rattle.std.proofs.lemmas.Bool.{true_from_ne_false}
 use Rattle.std.proofs.lemmas.List.{get_or_default}
 use Rattle.std.specs.Prelude.{All}
 use Rattle.std.specs.FinMap as fin
@@ -37,10 +38,6 @@ some_unless (Some x) h = (x, refl)
 here_unless : (v : Option (Unit {0})) → (v ≡ None → ⊥) → v ≡ Some tt
 here_unless None h = absurd (h refl)
 here_unless (Some u) h = refl
-
-true_unless : (b : Bool) → (b ≡ false → ⊥) → b ≡ true
-true_unless true h = refl
-true_unless false h = absurd (h refl)
 
 more_unless : (n : ℕ) → (n ≡ 0 → ⊥) → 0 < n
 more_unless zero h = absurd (h refl)
@@ -85,7 +82,7 @@ module _ {A : Type 0} (s : ClusterState) where
     release_possible = record {
       performer_is = below_unless p (length s.processors) (enabled.free NoProcessor);
       finds = here_unless _ (λ none. enabled.free NoRequest (inl (HoldsNone.at_this_time none)));
-      numbers = (enabled.admissible, enabled.numbers.1, λ kept. true_unless _ (λ none. enabled.free NoRequest (inr (kept, none))));
+      numbers = (enabled.admissible, enabled.numbers.1, λ kept. true_from_ne_false _ (λ none. enabled.free NoRequest (inr (kept, none))));
     }
 
   module _ (p vertex : ℕ) (batch : Batch A) (enabled : IsEnabled s (Send p vertex batch)) where
@@ -94,7 +91,7 @@ module _ {A : Type 0} (s : ClusterState) where
       performer_is = below_unless p (length s.processors) (λ le. enabled.free NoProcessor (inl le));
       finds = here_unless _ (λ none. enabled.free NoRequest (SendsFromNone.at_this_time none));
       numbers = (
-        true_unless _ (λ none. enabled.free NoRequest (SendsFromNone.by_operator none)),
+        true_from_ne_false _ (λ none. enabled.free NoRequest (SendsFromNone.by_operator none)),
         enabled.admissible,
         batch_time_small batch enabled.numbers.1,
         enabled.numbers.1.values,

@@ -25,6 +25,8 @@ pub mod InvariantLemmas
 pub mod Notices
 pub mod Releases
 pub mod Sends
+pub mod Sent
+pub mod SendLaws
 pub mod Runs
 pub mod Bounds
 pub mod Exchanges

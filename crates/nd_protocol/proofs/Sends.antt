@@ -6,15 +6,23 @@ use Rattle.nd_paths.specs.declared.point.Pointstamp.{Pointstamp}
 use Rattle.nd_paths.specs.Order.{IsStrictlyBefore}
 use Rattle.nd_processor.specs.State.{ProcessorState}
 use Rattle.nd_protocol.specs.State.{ClusterState, processor}
-use Rattle.nd_protocol.specs.Steps.{posts, point_at}
+use Rattle.nd_protocol.specs.Steps.{posts, posted_records, point_at}
 use Rattle.nd_protocol.specs.Fitting.{IsOrdered, IsAtVertex, ProcessorFits}
-use Rattle.nd_protocol.specs.Invariant.{Supports}
 use Rattle.nd_protocol.specs.declared.batch.Batch.{Batch}
-use Rattle.nd_protocol.proofs.Shape.{sending, FitsTypes, IsSmallKey, HasCause}
+use Rattle.nd_protocol.proofs.Shape.{sending, FitsTypes, IsSmallKey, AllAt, HasCause}
 use Rattle.nd_protocol.proofs.Counts.{AllAt-flat}
 use Rattle.nd_protocol.proofs.Emissions.{posts_later, posts_on_edges}
 use Rattle.nd_protocol.proofs.Ranges.{AllKeys-flat, posts_small}
 use Rattle.nd_protocol.proofs.Supports.{supports_identity, request_supports}
+
+pub posted_later : {A : Type 0} (s : ClusterState) → IsOrdered s.graph → (p vertex : ℕ) (b : Batch A) → fin.get (processor s p).requests (point_at vertex b.time) ≡ Some tt → FitsTypes s (sending p vertex b) → ProcessorFits s.graph (processor s p)
+    → AllAt (IsStrictlyBefore s.graph (point_at vertex b.time)) (posted_records s p vertex b)
+posted_later s o p vertex b found numbers fit =
+    let g : Dataflow = s.graph in
+    let n : ℕ = length s.processors in
+    let y : Pointstamp = point_at vertex b.time in
+    let place : IsAtVertex g y = fit.requests y found in
+    AllAt-flat (IsStrictlyBefore g y) (posts g n p vertex b) (posts_later g o n p vertex b (supports_identity (op_at g vertex) numbers.0) numbers.1 place.fits) b.values
 
 pub send_cause : {A : Type 0} (s : ClusterState) → IsOrdered s.graph → (p vertex : ℕ) (b : Batch A) → fin.get (processor s p).requests (point_at vertex b.time) ≡ Some tt → FitsTypes s (sending p vertex b) → ProcessorFits s.graph (processor s p) → HasCause s (sending p vertex b)
 send_cause s o p vertex b found numbers fit =
@@ -22,15 +30,13 @@ send_cause s o p vertex b found numbers fit =
     let q : ProcessorState = processor s p in
     let n : ℕ = length s.processors in
     let y : Pointstamp = point_at vertex b.time in
-    let place : IsAtVertex g y = fit.requests y found in
-    let supports : Supports g q y = request_supports g q y found numbers.0 in
     record {
       fits = fit;
       edges = AllAt-flat (λ z. length g.vertices ≤ z.location) (posts g n p vertex b) (posts_on_edges g n p vertex b) b.values;
       small = AllKeys-flat IsSmallKey (posts g n p vertex b) b.values (λ k d lt. posts_small g n p vertex b (get_or b.values k d) numbers.2 (numbers.3 k d lt));
       cause = y;
-      later = AllAt-flat (IsStrictlyBefore g y) (posts g n p vertex b) (posts_later g o n p vertex b (supports_identity (op_at g vertex) numbers.0) numbers.1 place.fits) b.values;
+      later = posted_later s o p vertex b found numbers fit;
       grows = λ z. inr (omega arith);
-      goes = inr supports;
+      goes = inr (request_supports g q y found numbers.0);
       supports = λ z h. inl h;
     }

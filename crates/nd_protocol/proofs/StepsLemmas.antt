@@ -27,7 +27,7 @@ use Rattle.nd_protocol.proofs.Preservation.{performed_balanced}
 
 module _ (s : ClusterState) (x : Work) where
   -- a field other than the records and the unsent change
-  after_field : {X : Type 0} (f : ProcessorState → X) → ((q : ProcessorState) (m : Counts value_at_cmp naturals) → f (record q { records = m }) ≡ f q) → ((q : ProcessorState) (d : DeltaValue) → f (record q { unsent = d }) ≡ f q)
+  pub after_field : {X : Type 0} (f : ProcessorState → X) → ((q : ProcessorState) (m : Counts value_at_cmp naturals) → f (record q { records = m }) ≡ f q) → ((q : ProcessorState) (d : DeltaValue) → f (record q { unsent = d }) ≡ f q)
       → (k : ℕ) → f (processor (done s x) k) ≡ f (get_or (set s.processors (performer x) (written s x)) k idle)
   unfolding done
   after_field f keeps_records keeps_unsent k =
@@ -70,7 +70,7 @@ module _ (s : ClusterState) (x : Work) where
   unsent_there k other = ap (λ q. q.unsent) (get_or-set_other (performed s x) (performer x) k _ idle other) ∙ unsent_performed k
 
   -- the step adds its gain to the truth, and to what its performer has to send
-  adds : performer x < length s.processors → Adds (IsStrictlyBefore s.graph) at (performer x) (at (gain s.processors (performed s x))) (reading s) (reading (done s x))
+  pub adds : performer x < length s.processors → Adds (IsStrictlyBefore s.graph) at (performer x) (at (gain s.processors (performed s x))) (reading s) (reading (done s x))
   unfolding done
   adds here = record {
     here = here;
