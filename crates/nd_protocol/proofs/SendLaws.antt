@@ -35,9 +35,9 @@ use Rattle.nd_protocol.proofs.Shape.{sending, performed, done, IsPossible}
 use Rattle.nd_protocol.proofs.StepsLemmas.{after_field, many_stepped, adds}
 
 leaves_on : (g : Dataflow) (vertex port l i : ℕ) (e : Edge) → l ≡ length g.vertices + i → slice_get g.edges i ≡ Some e → e.from ≡ vertex → e.port ≡ port → LeavesOn g vertex port l e
-leaves_on g vertex port l i e place is from port_is =
+leaves_on g vertex port l i e place is from on =
     let number : i ≡ l - length g.vertices = omega arith in
-    record { place = omega arith; edge = subst (λ m. slice_get g.edges m ≡ Some e) number is; from = from; port = port_is }
+    record { place = omega arith; edge = subst (λ m. slice_get g.edges m ≡ Some e) number is; from = from; on = on }
 
 module _ {A : Type 0} (s : ClusterState) (p vertex : ℕ) (b : Batch A) where
   -- a field other than the records and the unsent change
@@ -80,14 +80,14 @@ module _ {A : Type 0} (s : ClusterState) (p vertex : ℕ) (b : Batch A) where
             let k : ℕ = directed b.dest e.route n p v in
             let place : length g.vertices + i ≡ l = omega (arith, leaves.place) in
             let made : records_at (with_records s.processors (posted_records s p vertex b)) k (record_key (length g.vertices + i) t v) ≡ records_at s.processors k (record_key (length g.vertices + i) t v) + count_by (int_eq v) b.values
-            = all_made b.dest n p vertex b.port t v (length g.vertices) g.edges i e (leaves.edge, leaves.from, leaves.port) b.values s.processors (directed_below b.dest e.route n p v here there) in
+            = all_made b.dest n p vertex b.port t v (length g.vertices) g.edges i e (leaves.edge, leaves.from, leaves.on) b.values s.processors (directed_below b.dest e.route n p v here there) in
             ap (λ m. at m (record_key l t v)) (records_after k)
             ∙ subst (λ m. records_at (with_records s.processors (posted_records s p vertex b)) k (record_key m t v) ≡ records_at s.processors k (record_key m t v) + count_by (int_eq v) b.values) place made;
-        others = λ k r no.
+        others = λ k r apart.
             ap (λ m. at m r) (records_after k)
             ∙ none_made b.dest n p vertex b.port t k r (length g.vertices) g.edges
             (λ v i e leaves to is.
-            no e (leaves_on g vertex b.port r.point.location i e (ap (λ (d : ValueAt). d.point.location) is) leaves.0 leaves.1 leaves.2)
+            apart e (leaves_on g vertex b.port r.point.location i e (ap (λ (d : ValueAt). d.point.location) is) leaves.0 leaves.1 leaves.2)
             (ap (λ (d : ValueAt). d.point.time) is)
             (to ∙ ap (λ w. directed b.dest e.route n p w) (sym (ap (λ (d : ValueAt). d.value) is))))
             b.values s.processors;

@@ -77,17 +77,17 @@ module _ (dest : Option ℕ) (n p vertex port : ℕ) (t : Time) where
 
   untouched : (k : ℕ) (r : ValueAt) (v : ℤ) (l : ℕ) (es : List Edge) → ((i : ℕ) (e : Edge) → Leaves es i e → k ≡ directed dest e.route n p v → r ≡ record_key (l + i) t v → ⊥)
       → (qs : List ProcessorState) → records_at (with_records qs (made l es v)) k r ≡ records_at qs k r
-  untouched k r v l [] no qs = refl
-  untouched k r v l (e ∷ es) no qs =
+  untouched k r v l [] apart qs = refl
+  untouched k r v l (e ∷ es) apart qs =
       let c : ℕ × ValueAt = (directed dest e.route n p v, record_key l t v) in
       let rest : (qs : List ProcessorState) → records_at (with_records qs (made (l + 1) es v)) k r ≡ records_at qs k r
-      = untouched k r v (l + 1) es (λ i f leaves to is. (let next : (l + 1) + i ≡ l + suc i = omega arith in no (suc i) f leaves to (is ∙ ap (λ m. record_key m t v) next))) in
+      = untouched k r v (l + 1) es (λ i f leaves to is. (let next : (l + 1) + i ≡ l + suc i = omega arith in apart (suc i) f leaves to (is ∙ ap (λ m. record_key m t v) next))) in
       elim (nat_eq e.from vertex && nat_eq e.port port) as (λ b. (nat_eq e.from vertex && nat_eq e.port port) ≡ b → records_at (with_records qs (cond b (c ∷ []) [] ++ made (l + 1) es v)) k r ≡ records_at qs k r) [
         | true ↦ λ test. elim (arrives qs c k r) [
           | inl (to, is) ↦
               let leaves : (e.from ≡ vertex) × (e.port ≡ port) = both_equal e.from vertex e.port port test in
               let first : l ≡ l + 0 = omega arith in
-              absurd (no 0 e (refl, leaves.0, leaves.1) to (is ∙ ap (λ m. record_key m t v) first))
+              absurd (apart 0 e (refl, leaves.0, leaves.1) to (is ∙ ap (λ m. record_key m t v) first))
           | inr same ↦ rest (with_record qs c) ∙ same
         ]
         | false ↦ λ test. rest qs
@@ -155,10 +155,10 @@ module _ (dest : Option ℕ) (n p vertex port : ℕ) (t : Time) where
 
   pub none_made : (k : ℕ) (r : ValueAt) (l : ℕ) (es : List Edge) → ((v : ℤ) (i : ℕ) (e : Edge) → Leaves es i e → k ≡ directed dest e.route n p v → r ≡ record_key (l + i) t v → ⊥)
       → (vs : List ℤ) (qs : List ProcessorState) → records_at (with_records qs (flat_map (λ v. made_on dest n p vertex port v t l es) vs)) k r ≡ records_at qs k r
-  none_made k r l es no [] qs = refl
-  none_made k r l es no (v ∷ vs) qs =
+  none_made k r l es apart [] qs = refl
+  none_made k r l es apart (v ∷ vs) qs =
       ap (λ ps. records_at ps k r) (with_records-append qs (made l es v) (flat_map (made l es) vs))
-      ∙ none_made k r l es no vs (with_records qs (made l es v)) ∙ untouched k r v l es (no v) qs
+      ∙ none_made k r l es apart vs (with_records qs (made l es v)) ∙ untouched k r v l es (apart v) qs
 
 -- ---- where records go
 

@@ -127,7 +127,8 @@ first_fits : (g : Dataflow) (x : Pointstamp) → fin.get (first_requests 0 g.ver
 first_fits g x found =
     let (i, d, is, lt, depth) = first_request 0 g.vertices (map (λ e. depth_past_vertex g.vertices e.from) g.edges) x found in
     let small : TimeIsSmall (first_point i d).time = All-cons IsSmall 0 (replicate d 0) (omega arith) (all-replicate IsSmall d 0 (omega arith)) in
-    subst (IsAtVertex g) (sym is) (record { place = lt; fits = record { depth = subst (HasDepth g i) (sym (many-replicate d 0)) depth }; small = small })
+    let place : 0 + i ≡ i = omega arith in
+    subst (IsAtVertex g) (sym (is ∙ ap (λ k. first_point k d) place)) (record { place = lt; fits = record { depth = subst (HasDepth g i) (sym (many-replicate d 0)) depth }; small = small })
 
 no_unsent : (g : Dataflow) → DeltaFits g none
 no_unsent g x some = absurd (some (at-none x))

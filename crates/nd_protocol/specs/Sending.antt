@@ -20,7 +20,7 @@ pub record LeavesOn (g : Dataflow) (vertex port l : ℕ) (e : Edge) : Type 0 whe
   pub place : length g.vertices ≤ l
   pub edge : slice_get g.edges (l - length g.vertices) ≡ Some e
   pub from : e.from ≡ vertex
-  pub port : e.port ≡ port
+  pub on : e.port ≡ port
 
 -- t is s after processor p has sent a batch from a vertex
 pub record IsAfterSend {A : Type 0} (s t : ClusterState) (p vertex : ℕ) (b : Batch A) : Type 0 where
