@@ -71,7 +71,7 @@ GoesOn token.Close epoch = ⊤
 GoesOn token.Stay epoch = ⊤
 GoesOn (token.To n) epoch = (epoch < n) × IsSmall n
 
--- the numbers of the step fit their types, what moves goes to a later epoch or time, and a capability that is kept beside a later
+-- the numbers of the step fit their types, what moves goes to a later epoch or time, and a capability that stays beside a later
 -- one, or from which values are sent, supports
 abbrev pub FitsTypes : ClusterState → Work → Type 0
 FitsTypes s (feeding p vertex values next) = All IsValue values × GoesOn next (epoch_of s p vertex)

@@ -9,7 +9,7 @@ use std::marker::Model;
 #[derive(Debug, PartialEq, Eq, Drop)]
 pub struct Later {
     pub time: Timestamp,
-    /// Whether the capability at the earlier time is kept beside it.
+    /// Whether the capability at the earlier time stays beside it.
     pub keep: bool,
 }
 
