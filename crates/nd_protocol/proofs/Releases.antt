@@ -9,7 +9,7 @@ use Rattle.nd_processor.specs.State.{ProcessorState, Requests, one_at, in_reques
 use Rattle.nd_processor.specs.HeldLaws.{point_cases, one_at_itself, in_requests-insert_le, in_requests-remove}
 use Rattle.nd_protocol.specs.State.{ClusterState, processor}
 use Rattle.nd_protocol.specs.Steps.{moved_request, point_at}
-use Rattle.nd_protocol.specs.Times.{GoesLater, Keeps}
+use Rattle.nd_protocol.specs.Times.{GoesLater, is_kept}
 use Rattle.nd_protocol.specs.declared.times.Later.{Later}
 use Rattle.nd_protocol.specs.declared.times.Times.{Times}
 use Rattle.nd_protocol.specs.Fitting.{IsAtVertex, ProcessorFits}
@@ -46,7 +46,7 @@ goes_on g false m y w found on =
       others = λ z. elim (point_cases z y) [ inl same ↦ inr (same, gone) | inr apart ↦ inl (omega (arith, less z, kept z)) ];
     }
 
-request_moves : (g : Dataflow) (m : Requests) (vertex : ℕ) (t : Time) (to : Option Later) → fin.get m (point_at vertex t) ≡ Some tt → Fits g (point_at vertex t) → GoesLater t to → IsMoved g (Keeps to) m (moved_request m vertex t to) (point_at vertex t)
+request_moves : (g : Dataflow) (m : Requests) (vertex : ℕ) (t : Time) (to : Option Later) → fin.get m (point_at vertex t) ≡ Some tt → Fits g (point_at vertex t) → GoesLater t to → IsMoved g (is_kept to ≡ true) m (moved_request m vertex t to) (point_at vertex t)
 request_moves g m vertex t None found fits later =
     let y : Pointstamp = point_at vertex t in
     let less : (z : Pointstamp) → in_requests (fin.remove m y) z + one_at y z ≡ in_requests m z = λ z. in_requests-remove m y z found in
@@ -66,7 +66,7 @@ release_cause s p vertex times found numbers fit =
     let y : Pointstamp = point_at vertex times.time in
     let place : IsAtVertex g y = fit.requests y found in
     let n : Requests = moved_request q.requests vertex times.time times.to in
-    let moved : IsMoved g (Keeps times.to) q.requests n y = request_moves g q.requests vertex times.time times.to found place.fits numbers.0 in
+    let moved : IsMoved g (is_kept times.to ≡ true) q.requests n y = request_moves g q.requests vertex times.time times.to found place.fits numbers.0 in
     record {
       fits = released_fits g q vertex times.time times.to numbers.0 numbers.1 place fit;
       edges = tt;

@@ -20,7 +20,7 @@ use Rattle.nd_protocol.specs.Steps.{record_key, point_at, flat, epoch_of, moved_
 use Rattle.nd_protocol.specs.Fitting.{ProcessorFits}
 use Rattle.nd_protocol.specs.Invariant.{Supports}
 use Rattle.nd_protocol.specs.Ranges.{IsSmall, TimeIsSmall, TimesAreSmall, IsValue}
-use Rattle.nd_protocol.specs.Times.{GoesLater, Keeps}
+use Rattle.nd_protocol.specs.Times.{GoesLater, is_kept}
 use Rattle.nd_protocol.specs.declared.times.Times.{Times}
 use Rattle.nd_protocol.specs.declared.batch.Batch.{Batch}
 use Rattle.nd_protocol.specs.Enabled.{IsInRange}
@@ -77,7 +77,7 @@ abbrev pub FitsTypes : ClusterState → Work → Type 0
 FitsTypes s (feeding p vertex values next) = All IsValue values × GoesOn next (epoch_of s p vertex)
 FitsTypes s (taking p edge t value) = (op_at s.graph (target_of s.graph edge) ≡ op.Feedback → last_of t.counters < max_counter) × IsInRange (take_outcome s p edge t value)
 FitsTypes s (noticing p vertex t) = Unit {0}
-FitsTypes s (releasing p vertex times) = GoesLater times.time times.to × TimesAreSmall times.time times.to × (Keeps times.to → (facts (op_at s.graph vertex)).supports ≡ true)
+FitsTypes s (releasing p vertex times) = GoesLater times.time times.to × TimesAreSmall times.time times.to × (is_kept times.to ≡ true → (facts (op_at s.graph vertex)).supports ≡ true)
 FitsTypes s (sending p vertex batch) = ((facts (op_at s.graph vertex)).supports ≡ true) × IsAtOrBefore batch.time (batch_time batch) × TimeIsSmall (batch_time batch) × All IsValue batch.values
 
 -- what a step needs, among all that makes it enabled

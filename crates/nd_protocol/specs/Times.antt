@@ -1,20 +1,20 @@
 -- The times of a capability that is released.
-use Rattle.std.specs.Prelude.{◌≡◌, ◌≢◌, ⊤, Bool, true, Option, Some, None, refl}
+use Rattle.std.specs.Prelude.{◌≡◌, ◌≢◌, ⊤, Bool, false, Option, Some, None, refl}
 use Rattle.std.specs.Coded.{Coded, code_by, coded×, coded_bool, coded_option}
 use Rattle.nd_time.specs.Time.{Time, IsAtOrBefore}
 use Rattle.nd_time.specs.Listing.{time_code}
 use Rattle.nd_protocol.specs.declared.times.Later.{Later}
 use Rattle.nd_protocol.specs.declared.times.Times.{Times}
 
--- the capability stays beside one at a later time
-abbrev pub Keeps : Option Later → Type 0
-Keeps None = ⊥
-Keeps (Some to) = to.keep ≡ true
-
--- a capability goes only to a time strictly after the one at which it is held
+-- a capability that moves goes to a time strictly after the one at which it was held
 abbrev pub GoesLater : Time → Option Later → Type 0
 GoesLater t None = ⊤
 GoesLater t (Some to) = IsAtOrBefore t to.time × (t ≢ to.time)
+
+-- the capability stays beside one at a later time
+abbrev pub is_kept : Option Later → Bool
+is_kept None = false
+is_kept (Some to) = to.keep
 
 abbrev pub later_code : Coded Later
 later_code =
