@@ -55,7 +55,7 @@ fn first_point(location: usize, depth: usize) -> Pointstamp
 }
 
 // Returns a request at its first pointstamp for each vertex that starts with a capability.
-pub(crate) fn first_requests<A: Allocator>(
+pub(crate) fn first_requests<A: Allocator + Copy>(
     alloc: A,
     graph: &Graph<A>,
 ) -> Result<GrowingMap<Pointstamp, (), A>, AllocError>
