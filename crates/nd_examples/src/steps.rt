@@ -3,7 +3,7 @@
 use crate::graphs::{HELD, SUM, graph_of, point, time};
 use nd_cluster::{Cluster, Next, Part, Points, Step, Values};
 use nd_graph::Graph;
-use nd_protocol::{BoxedTimes, Processors, Times};
+use nd_protocol::{BoxedTimes, Later, Processors, Times};
 use serde::{Described, Serialize, Serializer};
 use std::alloc::{Allocator, Global};
 
@@ -92,7 +92,10 @@ pub fn processors_of<A: Allocator>(alloc: A, list: &[u32]) -> Option<Processors<
 /// Returns the times of a capability that is dropped or moves.
 pub fn times_of(list: &[u32], to: &Option<&'static [u32]>) -> Option<Times> {
     let to = match to {
-        Some(to) => Some(time(to)?),
+        Some(to) => Some(Later {
+            time: time(to)?,
+            keep: false,
+        }),
         None => None,
     };
     Some(Times {

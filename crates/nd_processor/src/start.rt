@@ -55,19 +55,20 @@ fn first_point(location: usize, depth: usize) -> Pointstamp
 }
 
 // Returns a request at its first pointstamp for each vertex that starts with a capability.
-pub(crate) fn first_requests<A: Allocator>(
+pub(crate) fn first_requests<A: Allocator + Copy>(
     alloc: A,
     graph: &Graph<A>,
 ) -> Result<GrowingMap<Pointstamp, (), A>, AllocError>
     ensures { IfOk result (λ m. from_entries m ≡ requests_from 0 graph.now.vertices) }
 {
     let vertices = graph.vertices();
+    let depths = graph.depths();
     let mut requests = GrowingMap::new(alloc);
     let mut l = vertices.len();
     while l > 0 {
         l -= 1;
         if vertices[l].op.starts() {
-            requests.put(&first_point(l, graph.location_depth(l)), ())?;
+            requests.put(&first_point(l, depths[l]), ())?;
         }
     }
     Ok(requests)

@@ -1,5 +1,5 @@
 -- The times of a capability that is released.
-use Rattle.std.specs.Prelude.{◌≡◌, ◌≢◌, ⊤, Bool, Option, Some, None, refl}
+use Rattle.std.specs.Prelude.{◌≡◌, ◌≢◌, ⊤, Bool, false, Option, Some, None, refl}
 use Rattle.std.specs.Coded.{Coded, code_by, coded×, coded_bool, coded_option}
 use Rattle.nd_time.specs.Time.{Time, IsAtOrBefore}
 use Rattle.nd_time.specs.Listing.{time_code}
@@ -10,6 +10,11 @@ use Rattle.nd_protocol.specs.declared.times.Times.{Times}
 abbrev pub GoesLater : Time → Option Later → Type 0
 GoesLater t None = ⊤
 GoesLater t (Some to) = IsAtOrBefore t to.time × (t ≢ to.time)
+
+-- the capability is kept beside one at a later time
+abbrev pub is_kept : Option Later → Bool
+is_kept None = false
+is_kept (Some to) = to.keep
 
 abbrev pub later_code : Coded Later
 later_code =

@@ -69,6 +69,8 @@ pub enum Step<A: Allocator = Global> {
 impl<A: Allocator> Step<A> {
     /// Returns an equal step.
     pub fn copy(&self, alloc: A) -> Result<Step<A>, AllocError>
+    where
+        A: Copy,
         ensures { IfOk result (λ x. x ≡ self.now) }
     {
         match self {

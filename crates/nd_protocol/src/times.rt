@@ -1,5 +1,6 @@
 //! The times of a capability that is released.
 ghost use Rattle.std.specs.Prelude.{◌≡◌, ◌≢◌, IfOk, MatchBool};
+ghost use Rattle.nd_protocol.specs.Times.{is_kept};
 
 use nd_time::Timestamp;
 use std::alloc::{AllocError, Allocator, Global};
@@ -33,6 +34,16 @@ pub struct Times {
 }
 
 impl Times {
+    /// Returns whether the capability is kept beside one at a later time.
+    pub fn keeps(&self) -> bool
+        ensures { result ≡ is_kept self.now.to }
+    {
+        match &self.to {
+            Some(to) => to.keep,
+            None => false,
+        }
+    }
+
     /// Returns equal times.
     pub fn copy(&self) -> Times
         ensures { result ≡ self.now }
