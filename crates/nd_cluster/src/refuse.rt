@@ -204,8 +204,7 @@ impl<A: Allocator + Copy> Cluster<A> {
 
     // Returns why a send that is within the limits is refused, or none if it is not.
     fn post_last(&self, p: u32, vertex: usize, batch: &Batch<A>) -> Option<Refusal>
-        ensures { IsWithinRules A self.now (Posting p vertex batch.now)
-            → IsLastRefusal {A = A} self.now (Posting p vertex batch.now) result }
+        ensures { IsLastRefusal {A = A} self.now (Posting p vertex batch.now) result }
     {
         if batch.port >= op_at(self.graph(), vertex).ports() {
             return Some(Refusal::NoPort);

@@ -8,7 +8,7 @@ ghost use Rattle.rewind_forms.specs.Objects.{next_data, broadcast_object, object
 use crate::object;
 use crate::shown::{Names, Place, Shown, send_list};
 use nd_paths::Pointstamp;
-use nd_protocol::{Batch, Later, Next, Part, Points, Step, Times, Values};
+use nd_protocol::{Batch, Next, Part, Points, Step, Times, Values};
 use nd_state_json::send_time;
 use nd_time::Timestamp;
 use serde::Serializer;
@@ -151,39 +151,29 @@ fn send_release<S: Serializer, N: Names>(
         (S.written out.old) (S.written out.new)) }
 {
     let (time, vertex) = (&times.time, Place(vertex));
-    match &times.to {
-        None => object! {"do": "release", "p": p, "time": time, "vertex": vertex}.send(out, names),
-        Some(
-            Later {
-                time: to,
-                keep: false,
-            },
-        ) => {
-            object! {
-                "do": "release",
-                "p": p,
-                "time": time,
-                "to": to,
-                "vertex": vertex
-            }
-            .send(out, names)
+    let Some(later) = &times.to else {
+        return object! {"do": "release", "p": p, "time": time, "vertex": vertex}.send(out, names);
+    };
+    let to = &later.time;
+    if later.keep {
+        object! {
+            "do": "release",
+            "keep": true,
+            "p": p,
+            "time": time,
+            "to": to,
+            "vertex": vertex
         }
-        Some(
-            Later {
-                time: to,
-                keep: true,
-            },
-        ) => {
-            object! {
-                "do": "release",
-                "keep": true,
-                "p": p,
-                "time": time,
-                "to": to,
-                "vertex": vertex
-            }
-            .send(out, names)
+        .send(out, names)
+    } else {
+        object! {
+            "do": "release",
+            "p": p,
+            "time": time,
+            "to": to,
+            "vertex": vertex
         }
+        .send(out, names)
     }
 }
 
