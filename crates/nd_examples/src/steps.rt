@@ -104,7 +104,7 @@ pub fn processors_of<A: Allocator>(alloc: A, list: &[u32]) -> Option<Processors<
     Some(processors)
 }
 
-/// Returns the times of a capability that is dropped, moves, or is kept beside a later one.
+/// Returns the times of a capability that is dropped, moves, or is kept along with a later one.
 pub fn times_of(list: &[u32], to: &Option<&'static [u32]>, keep: bool) -> Option<Times> {
     let to = match to {
         Some(to) => Some(Later {

@@ -96,7 +96,7 @@ pub data HoldsNone (s : ClusterState) (p vertex : ℕ) (t : Time) : Type 0 where
   by_operator : (facts (op_at s.graph vertex)).holds ≡ false → HoldsNone s p vertex t
   at_this_time : fin.get (processor s p).requests (point_at vertex t) ≡ None → HoldsNone s p vertex t
 
--- the capability is to be kept beside the later one, but does not support it
+-- the capability is to be kept along with the later one, but does not support it
 abbrev pub KeepsInVain : ClusterState → ℕ → Option Later → Type 0
 KeepsInVain s vertex to = (is_kept to ≡ true) × ((facts (op_at s.graph vertex)).supports ≡ false)
 

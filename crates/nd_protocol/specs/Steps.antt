@@ -133,13 +133,13 @@ noticed s p vertex t =
     (slice_set s.processors p (record q { requests = fin.remove q.requests (point_at vertex t); items = slice_set q.items vertex outcome.items }))
     (flat_map (emitted s.graph (length s.processors) p vertex t) outcome.emissions)
 
--- a request is removed, moved to another time, or kept beside one at another time; if there is already a request at that time, it
+-- a request is removed, moved to another time, or kept along with one at another time; if there is already a request at that time, it
 -- stays
 abbrev pub moved_request : Requests → ℕ → Time → Option Later → Requests
 moved_request requests vertex t None = fin.remove requests (point_at vertex t)
 moved_request requests vertex t (Some to) = fin.insert (cond to.keep requests (fin.remove requests (point_at vertex t))) (point_at vertex to.time) tt
 
--- a held capability is dropped, moved to another time, or kept beside one at another time
+-- a held capability is dropped, moved to another time, or kept along with one at another time
 unfoldable pub released : ClusterState → ℕ → ℕ → Times → List ProcessorState
 released s p vertex times =
     let q = processor s p in

@@ -25,7 +25,7 @@ pub enum StepForm {
     Release,
     /// A release that moves a capability to a later time.
     Move,
-    /// The same with the key `keep`, which says whether the capability is kept beside the later one.
+    /// The same with the key `keep`, which says whether the capability is kept along with the later one.
     Keep,
     Send,
     /// A broadcast of all that is unsent.
