@@ -5,14 +5,14 @@ use crate::copies::go;
 use crate::refused::Heap;
 use nd_cluster::{Cluster, Next, Step};
 use nd_examples::{
-    HELD, HELD_MOVED, LINE, LOOP, SUM_NOTIFIED, Script, Told, point, processors_of, start, step_of,
-    values_of,
+    HELD, HELD_MOVED, LINE, LOOP, SUM_NOTIFIED, Script, Sent, TRACED, Told, point, processors_of,
+    start, step_of, values_of,
 };
 use nd_testing::{Refusing, in_turn};
 use std::alloc::{Allocator, Global};
 
 /// Steps of each kind, with lists that take memory, and states with candidates of each kind.
-static RUNS: [Script; 7] = [
+static RUNS: [Script; 8] = [
     (
         LINE,
         2,
@@ -55,6 +55,27 @@ static RUNS: [Script; 7] = [
             Told::All(0),
             Told::Receive(0, 0),
             Told::Release(0, "h", &[0], None),
+        ],
+    ),
+    (
+        TRACED,
+        1,
+        &[
+            Told::Feed(0, "a", &[7], Next::Close),
+            Told::Take(0, "ax", &[0], 7),
+            Told::Send(
+                0,
+                "x",
+                Sent {
+                    time: &[0],
+                    at: Some(&[1]),
+                    port: 0,
+                    values: &[1, 2, 3, 4],
+                    dest: Some(0),
+                },
+            ),
+            Told::Points(0, &[("a", &[0]), ("x", &[0])]),
+            Told::Keep(0, "x", &[0], &[3]),
         ],
     ),
 ];
