@@ -26,6 +26,21 @@ TOP = os.path.dirname(TOOLS)
 BUILT = os.path.join(TOP, "crates", "rewind_cli", "out", "rewind_cli")
 # Before rewind_tools.runs is imported, which looks at it.
 PROGRAM = os.environ.setdefault("REWIND_PROGRAM", BUILT)
+
+
+def needs_version_6():
+    """Skips a test if the program does not read scripts of version 6; if it does, the tools open their
+    sessions in it. Goes, with REWIND_VERSION, once the program reads version 6."""
+    if not os.path.exists(PROGRAM):
+        return unittest.skip("the program is not built")
+    ran = subprocess.run(["rewind"], executable=PROGRAM, input=b'{"version":6}\n', capture_output=True)
+    if ran.returncode == 0:
+        os.environ["REWIND_VERSION"] = "6"
+    return unittest.skipUnless(ran.returncode == 0, "the program does not read scripts of version 6")
+
+
+# Before rewind_tools.script is imported, which looks at REWIND_VERSION.
+NEEDS_VERSION_6 = needs_version_6()
 SECONDS = 60
 CTRL_C = "\x03"
 # A graph on which a record of input a goes round a loop for ever.
