@@ -141,8 +141,8 @@ class Ways(unittest.TestCase):
 
     @NEEDS_VERSION_6
     def test_sends(self):
-        """A capability at an opaque vertex: send from it on a port and at a later time, keep it beside a later
-        one, and try a time that is too early, which keeps what is typed."""
+        """A capability at an opaque vertex: send from it on a port and at a later time, keep it beside a
+        later one, and try a time that is too early, which keeps what is typed."""
         values = "#candidates [aria-label='values to send from x (%d) of processor 0']"
         at = "#candidates [aria-label='the time of what is sent from x (%d) of processor 0']"
         with Served(opening_of("sends-and-releases", 4)) as live, Page(live) as page:
