@@ -12,6 +12,7 @@ from rewind_tools import runs
 from rewind_tools.testing import NEEDS_VERSION_6, TOP
 
 VALUES, FEED = "#feed input", "#feed button"
+LISTED = "return document.getElementById('candidates').getAttribute('aria-busy') === 'false'"
 WARNS = "return document.getElementById('warning').open"
 # What a screen reader reads of an element: its own name, its label, or its text.
 NAME = """
@@ -154,6 +155,7 @@ class Ways(unittest.TestCase):
             page.press("enter")
             page.at(3, "the send")
             page.says("effect", "sends 5 and 9007199254740993 on port 1 at (2), from the capability that")
+            page.wait(lambda: page.run(LISTED), "the list of the candidates")
             page.click(page.find("#candidates input[type=checkbox]"))
             page.click_text("#candidates form button", "move to")
             page.at(4, "the later capability")
