@@ -10,7 +10,7 @@ import subprocess
 from dap_tests.talking import COMMAND, REFUSED, STUCK, Client, frame, request, script_file, short
 from live_tests.served import chain
 from rewind_tools import testing
-from rewind_tools.testing import NEEDS_VERSION_6, SECONDS, TOP
+from rewind_tools.testing import SECONDS, TOP
 
 THREAD = {"threadId": 1}
 HELD = f"{TOP}/examples/held-capability.jsonl"
@@ -73,7 +73,6 @@ class Seen(testing.Case):
         (said,) = [it for name, it in waiting.items() if "batch" in name]
         self.holds("a hold", said.startswith("53 NotNotified"), said)
 
-    @NEEDS_VERSION_6
     def test_opaque_vertex(self):
         """The script stops at the send that is refused; the console sends on the other port."""
         client = self.client

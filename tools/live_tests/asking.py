@@ -6,7 +6,6 @@ from live_tests.served import Served, chain, feed, lines_for, of_class, opening_
 from rewind_tools import runs
 from rewind_tools.live.server import Live
 from rewind_tools.session import Session
-from rewind_tools.testing import NEEDS_VERSION_6
 
 
 class Stuck(unittest.TestCase):
@@ -131,7 +130,6 @@ class Held(unittest.TestCase):
         why = live.asked("why", {"q": 0, "at": "out", "time": [2]})
         self.assertTrue(why["passed"] and not why["reasons"], why)
 
-    @NEEDS_VERSION_6
     def test_opaque_vertex(self):
         """A capability at an opaque vertex: what is sent from it, and a later one beside it."""
         with Served(opening_of("sends-and-releases", 4)) as live:

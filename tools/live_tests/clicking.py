@@ -9,7 +9,7 @@ from live_tests.served import (
     CHOOSE, POSITION, TEXT, Page, Served, ServedBy, Tunnel, chain, feed, needs_browser, opening_of, stuck,
 )  # fmt: skip
 from rewind_tools import runs
-from rewind_tools.testing import NEEDS_VERSION_6, TOP
+from rewind_tools.testing import TOP
 
 VALUES, FEED = "#feed input", "#feed button"
 LISTED = "return document.getElementById('candidates').getAttribute('aria-busy') === 'false'"
@@ -140,7 +140,6 @@ class Ways(unittest.TestCase):
             page.click(page.find("#run"))
             page.says("candidates", "no step is left: every input is closed")
 
-    @NEEDS_VERSION_6
     def test_sends(self):
         """A capability at an opaque vertex: send from it on a port and at a later time, keep it beside a
         later one, and try a time that is too early, which keeps what is typed."""

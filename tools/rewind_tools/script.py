@@ -5,7 +5,6 @@ words.
 'tools/test_tell' compares the grammar with the program, on each form and on thousands of lines with one
 change."""
 import json
-import os
 
 STEPS = {
     "feed": {"p": "small", "vertex": "vertex", "values": "values", "next": "next"},
@@ -58,9 +57,6 @@ SINCE = {
     "send": 6,
 }  # fmt: skip
 LAST = 6
-# The version in which the tools open a session. Until the program reads version 6 it is 5, and tests of
-# another program name theirs in the environment; then LAST takes its place.
-OPENED = int(os.environ.get("REWIND_VERSION", "5"))
 # The words of "next"; from a later version on, it may also be {"to": n}.
 NEXTS, NEXT_TO_SINCE = ("next", "close", "stay"), 5
 # The most processors under "only".

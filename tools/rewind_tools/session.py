@@ -21,7 +21,7 @@ import tempfile
 import threading
 
 from rewind_tools.runs import NOTES, PROGRAM, environment, lines_of
-from rewind_tools.script import COMMANDS, OPENED
+from rewind_tools.script import COMMANDS, LAST
 
 SECONDS_TO_END = 2
 # How often the notes of ./rewind are looked for while the program starts, and how much of them is read.
@@ -42,7 +42,7 @@ class Session:
     """The program's process, at the graph's line and after it. While it starts, which may take a minute,
     each note of ./rewind is given to `on_note`."""
 
-    def __init__(self, graph, words=(), version=OPENED, on_note=None):
+    def __init__(self, graph, words=(), version=LAST, on_note=None):
         self.graph, self.words, self.version = graph, list(words), version
         self.errors = tempfile.TemporaryFile()
         how = {"stdin": subprocess.PIPE, "stdout": subprocess.PIPE, "stderr": self.errors}

@@ -26,22 +26,6 @@ TOP = os.path.dirname(TOOLS)
 BUILT = os.path.join(TOP, "crates", "rewind_cli", "out", "rewind_cli")
 # Before rewind_tools.runs is imported, which looks at it.
 PROGRAM = os.environ.setdefault("REWIND_PROGRAM", BUILT)
-
-
-def reads_version_6():
-    """Whether the program reads scripts of version 6, in which the tools then open their sessions. Goes,
-    with what depends on it and REWIND_VERSION, once the program reads them."""
-    if not os.path.exists(PROGRAM):
-        return False
-    ran = subprocess.run(["rewind"], executable=PROGRAM, input=b'{"version":6}\n', capture_output=True)
-    if ran.returncode == 0:
-        os.environ["REWIND_VERSION"] = "6"
-    return ran.returncode == 0
-
-
-# Before rewind_tools.script is imported, which looks at REWIND_VERSION.
-READS_VERSION_6 = reads_version_6()
-NEEDS_VERSION_6 = unittest.skipUnless(READS_VERSION_6, "the program does not read scripts of version 6")
 SECONDS = 60
 CTRL_C = "\x03"
 # A graph on which a record of input a goes round a loop for ever.

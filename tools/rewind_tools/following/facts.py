@@ -3,9 +3,8 @@ the point that was left out, and why a time is not finished.
 
     refused(words, line, value, reply)      why a line was refused, in sentences; none if tools/tell has them
     why(words, line, asked)                 why a time is not finished, in sentences"""
-from rewind_tools.following.steps import ports_words
 from rewind_tools.telling.answers import inadmissible, no_capability, not_yet
-from rewind_tools.telling.commands import at, counted, processors, record, some_of, time_in
+from rewind_tools.telling.commands import at, counted, ports_words, processors, record, some_of, time_in
 from rewind_tools.telling.reasons import why_words
 
 
