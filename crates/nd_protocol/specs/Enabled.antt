@@ -1,6 +1,6 @@
 -- When a step is enabled, and with which refusal it is refused otherwise: that of the least number whose condition holds (this
 -- project's own rule).
-use Rattle.std.specs.Prelude.{◌≡◌, ◌≢◌, ℕ, ◌<◌, ◌≤◌, ◌⊎◌, ℤ, true, false, List, [], ◌∷◌, length, All, Option, Some, None, IfSome, unsigned_abs, FitsSigned}
+use Rattle.std.specs.Prelude.{◌≡◌, ◌≢◌, ℕ, ◌<◌, ◌≤◌, ◌⊎◌, ℤ, true, false, List, [], ◌∷◌, length, All, Option, Some, None, unsigned_abs, FitsSigned}
 use Rattle.std.specs.Int.{w64}
 use Rattle.std.specs.FinMap as fin
 use Rattle.nd_time.specs.Limits.{max_count, max_counter, max_values, max_queue}
@@ -26,7 +26,7 @@ use Rattle.nd_protocol.specs.Exchange.{StaysUpright}
 use Rattle.nd_protocol.specs.Steps.{record_key, target_of, point_at, epoch_of, take_outcome, batch_time, chosen, stepped}
 use Rattle.nd_protocol.specs.Refusals.{number_of}
 use Rattle.nd_protocol.specs.Ranges.{NumbersFit}
-use Rattle.nd_protocol.specs.Times.{GoesLater}
+use Rattle.nd_protocol.specs.Times.{GoesLater, is_kept}
 use Rattle.nd_protocol.specs.declared.times.Later.{Later}
 use Rattle.nd_protocol.specs.declared.times.Times.{Times}
 use Rattle.nd_protocol.specs.declared.batch.Batch.{Batch}
@@ -96,9 +96,9 @@ pub data HoldsNone (s : ClusterState) (p vertex : ℕ) (t : Time) : Type 0 where
   by_operator : (facts (op_at s.graph vertex)).holds ≡ false → HoldsNone s p vertex t
   at_this_time : fin.get (processor s p).requests (point_at vertex t) ≡ None → HoldsNone s p vertex t
 
--- the capability is to be kept beside the later one, but does not support it
+-- the capability is to stay beside the later one, but does not support it
 abbrev pub KeepsInVain : ClusterState → ℕ → Option Later → Type 0
-KeepsInVain s vertex to = IfSome to (λ later. (later.keep ≡ true) × ((facts (op_at s.graph vertex)).supports ≡ false))
+KeepsInVain s vertex to = (is_kept to ≡ true) × ((facts (op_at s.graph vertex)).supports ≡ false)
 
 -- the conditions of a release; no count grows, so that of refusal 13 never holds
 abbrev pub ReleaseFails : ClusterState → ℕ → ℕ → Times → ClusterState → Refusal → Type 0

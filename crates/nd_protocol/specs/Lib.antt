@@ -11,5 +11,6 @@ pub mod Enabled
 pub mod Start
 pub mod Invariant
 pub mod Exchange
+pub mod Sending
 pub mod Laws
 pub mod Codes

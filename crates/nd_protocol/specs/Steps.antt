@@ -133,13 +133,13 @@ noticed s p vertex t =
     (slice_set s.processors p (record q { requests = fin.remove q.requests (point_at vertex t); items = slice_set q.items vertex outcome.items }))
     (flat_map (emitted s.graph (length s.processors) p vertex t) outcome.emissions)
 
--- a request is removed, moved to another time, or kept beside one at another time; if there is already a request at that time, it
+-- a request is removed, moved to another time, or stays beside one at another time; if there is already a request at that time, it
 -- stays
 abbrev pub moved_request : Requests → ℕ → Time → Option Later → Requests
 moved_request requests vertex t None = fin.remove requests (point_at vertex t)
 moved_request requests vertex t (Some to) = fin.insert (cond to.keep requests (fin.remove requests (point_at vertex t))) (point_at vertex to.time) tt
 
--- a held capability is dropped, moved to another time, or kept beside one at another time
+-- a held capability is dropped, moved to another time, or stays beside one at another time
 unfoldable pub released : ClusterState → ℕ → ℕ → Times → List ProcessorState
 released s p vertex times =
     let q = processor s p in
@@ -153,9 +153,13 @@ batch_time b = unwrap_or b.at b.time
 abbrev pub posts : {A : Type 0} → Dataflow → ℕ → ℕ → ℕ → Batch A → ℤ → List (ℕ × ValueAt)
 posts g n p vertex b v = made_on b.dest n p vertex b.port v (batch_time b) (length g.vertices) g.edges
 
+-- the records that a batch makes, each with its processor
+abbrev pub posted_records : {A : Type 0} → ClusterState → ℕ → ℕ → Batch A → List (ℕ × ValueAt)
+posted_records s p vertex b = flat_map (posts s.graph (length s.processors) p vertex b) b.values
+
 -- a vertex sends the values of a batch
 unfoldable pub posted : {A : Type 0} → ClusterState → ℕ → ℕ → Batch A → List ProcessorState
-posted s p vertex b = with_records s.processors (flat_map (posts s.graph (length s.processors) p vertex b) b.values)
+posted s p vertex b = with_records s.processors (posted_records s p vertex b)
 
 -- ---- the steps
 

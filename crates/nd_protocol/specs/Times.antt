@@ -11,7 +11,7 @@ abbrev pub GoesLater : Time → Option Later → Type 0
 GoesLater t None = ⊤
 GoesLater t (Some to) = IsAtOrBefore t to.time × (t ≢ to.time)
 
--- the capability is kept beside one at a later time
+-- the capability stays beside one at a later time
 abbrev pub is_kept : Option Later → Bool
 is_kept None = false
 is_kept (Some to) = to.keep

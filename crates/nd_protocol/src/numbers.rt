@@ -14,6 +14,13 @@ fn numbers_are_small(numbers: &[u32])
     let _len = numbers.len();
 }
 
+// Shows that the number fits 32 bits.
+fn is_small(number: u32)
+    ensures { IsSmall number }
+{
+    let _number = number;
+}
+
 // Shows that the number fits 64 bits.
 fn is_value(value: i64)
     ensures { IsValue value }
@@ -66,7 +73,10 @@ fn batch_is_small<A: Allocator>(batch: &Batch<A>)
     if let Some(at) = &batch.at {
         times_are_small(at);
     }
-    let _numbers = (batch.port, batch.dest);
+    if let Some(dest) = batch.dest {
+        is_small(dest);
+    }
+    is_small(batch.port);
     are_values(batch.values.as_slice());
 }
 

@@ -10,7 +10,7 @@ use std::marker::Model;
 #[derive(Debug, PartialEq, Eq, Drop)]
 pub struct Later {
     pub time: Timestamp,
-    /// Whether the capability at the earlier time is kept beside it.
+    /// Whether the capability at the earlier time stays beside it.
     pub keep: bool,
 }
 
@@ -34,7 +34,7 @@ pub struct Times {
 }
 
 impl Times {
-    /// Returns whether the capability is kept beside one at a later time.
+    /// Returns whether the capability stays beside one at a later time.
     pub fn keeps(&self) -> bool
         ensures { result ≡ is_kept self.now.to }
     {
