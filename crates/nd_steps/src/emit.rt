@@ -1,8 +1,8 @@
 //! The records that vertices make, and the processors that they go to.
-ghost use Rattle.std.specs.Prelude.{◌≡◌, ◌<◌, ◌≤◌, ◌+◌, None, OnOk, length};
+ghost use Rattle.std.specs.Prelude.{◌≡◌, ◌<◌, ◌≤◌, ◌+◌, OnOk, length};
 ghost use Rattle.nd_time.specs.Limits.{max_locations};
 ghost use Rattle.nd_protocol.specs.Steps.{destination as destination_of, directed as directed_to};
-ghost use Rattle.nd_steps.specs.Drafts.{made_along, made_by, emission_of, values_by, emitted_by};
+ghost use Rattle.nd_steps.specs.Drafts.{made_along, made_to, emission_of, values_by, emitted_by};
 ghost use Rattle.nd_steps.specs.Performers.{AddsRecords};
 
 use crate::draft::Draft;
@@ -92,7 +92,7 @@ fn emit<A: Allocator + Copy, B: Allocator>(
 ) -> Result<(), AllocError>
     requires { by.now.p < by.now.n }
     ensures { OnOk result (AddsRecords draft.old draft.new
-        (made_by dest by.now.graph.now by.now.n by.now.p by.now.vertex emission.now)) }
+        (made_to dest by.now.graph.now by.now.n by.now.p by.now.vertex emission.now)) }
 {
     let first = first_edge(by.graph);
     for (i, edge) in by.graph.edges().iter().enumerate() {

@@ -18,7 +18,7 @@ fn add_gone<A: Allocator + Copy>(
     ensures { OnOk result (Adds draft.old draft.new
         (gone_changes draft.old.p vertex times.now)) }
 {
-    if let Some(Later { keep: true, .. }) = &times.to {
+    if times.keeps() {
         return Ok(());
     }
     let point = Pointstamp {
