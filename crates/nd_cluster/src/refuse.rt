@@ -128,7 +128,7 @@ impl<A: Allocator + Copy> Cluster<A> {
         self.processor(p as usize).has_request(&point)
     }
 
-    // Returns an error unless a vertex of a processor holds the capability, and supports a later one if it is kept beside it: why
+    // Returns an error unless a vertex of a processor holds the capability, and supports a later one if it stays beside it: why
     // its release is refused.
     pub(crate) fn release_kept(&self, p: u32, vertex: usize, times: &Times) -> Result<(), Refusal>
         ensures kept { OnOk result (fin.get (processor self.now p).requests

@@ -20,7 +20,7 @@ use Rattle.nd_steps.specs.Refused.{supports_at, supporting_points, LeavesUpright
 -- ---- how often a pointstamp is in a list
 
 abbrev many : List Pointstamp → Pointstamp → ℕ
-many xs x = sum_by (λ y. one_at y x) xs
+many xs x = sum_by (λ (y : Pointstamp). one_at y x) xs
 
 among : (x : Pointstamp) (xs : List Pointstamp) → 0 < many xs x → Contains xs x
 among x [] h = absurd (omega arith)
@@ -28,7 +28,7 @@ among x (y ∷ ys) h =
     elim (point_cases x y) [
       | inl is ↦ (0, omega arith, sym is)
       | inr nothing ↦
-          let s = sum_by-cons (λ z. one_at z x) y ys in
+          let s = sum_by-cons (λ (z : Pointstamp). one_at z x) y ys in
           let rest : Contains ys x = among x ys (omega arith) in
           (suc rest.0, omega (arith, rest.1), rest.2)
     ]
@@ -36,11 +36,11 @@ among x (y ∷ ys) h =
 at_one : (x : Pointstamp) (xs : List Pointstamp) (k : ℕ) → k < length xs → get_or xs k x ≡ x → 0 < many xs x
 at_one x [] k lt is = absurd (omega arith)
 at_one x (y ∷ ys) zero lt is =
-    let s = sum_by-cons (λ z. one_at z x) y ys in
-    let one : one_at y x ≡ 1 = ap (λ z. one_at z x) is ∙ one_at_itself x in
+    let s = sum_by-cons (λ (z : Pointstamp). one_at z x) y ys in
+    let one : one_at y x ≡ 1 = ap (λ (z : Pointstamp). one_at z x) is ∙ one_at_itself x in
     omega arith
 at_one x (y ∷ ys) (suc k) lt is =
-    let s = sum_by-cons (λ z. one_at z x) y ys in
+    let s = sum_by-cons (λ (z : Pointstamp). one_at z x) y ys in
     let rest = at_one x ys k (omega arith) is in
     omega arith
 
@@ -57,7 +57,7 @@ module _ (keeps : Pointstamp → Bool) (x : Pointstamp) where
   none_either false = refl
 
   many-cond : (b : Bool) (y : Pointstamp) (ys : List Pointstamp) → many (cond b (y ∷ ys) ys) x ≡ cond b (one_at y x + many ys x) (many ys x)
-  many-cond true y ys = sum_by-cons (λ z. one_at z x) y ys
+  many-cond true y ys = sum_by-cons (λ (z : Pointstamp). one_at z x) y ys
   many-cond false y ys = refl
 
   -- a pointstamp at another place counts nothing
@@ -69,14 +69,14 @@ module _ (keeps : Pointstamp → Bool) (x : Pointstamp) where
   many-filter (y ∷ ys) =
       many-cond (keeps y) y (filter keeps ys)
       ∙ one_kept (keeps y) (keeps x) (one_at y x) (many ys x) (many (filter keeps ys) x) (apart y) (many-filter ys)
-      ∙ ap (λ n. cond (keeps x) n 0) (sym (sum_by-cons (λ z. one_at z x) y ys))
+      ∙ ap (λ n. cond (keeps x) n 0) (sym (sum_by-cons (λ (z : Pointstamp). one_at z x) y ys))
 
 -- ---- the pointstamps that support
 
 many_supporting : (g : Dataflow) (q : ProcessorState) (x : Pointstamp) → many (supporting_points g q) x ≡ supporting g q x
 many_supporting g q x =
-    sum_by-append (λ y. one_at y x) (token_points q) (filter (supports_at g) (fin.keys q.requests))
-    ∙ (λ i. sum_by-map (λ y. one_at y x) (λ (e : ℕ × ℕ). token_point e.0 e.1) (fin.entries q.tokens) i + many-filter (supports_at g) x (fin.keys q.requests) i)
+    sum_by-append (λ (y : Pointstamp). one_at y x) (token_points q) (filter (supports_at g) (fin.keys q.requests))
+    ∙ (λ i. sum_by-map (λ (y : Pointstamp). one_at y x) (λ (e : ℕ × ℕ). token_point e.0 e.1) (fin.entries q.tokens) i + many-filter (supports_at g) x (fin.keys q.requests) i)
 
 pub supports : (g : Dataflow) (q : ProcessorState) (x : Pointstamp) → Contains (supporting_points g q) x → Supports g q x
 supports g q x inside = subst (λ n. 0 < n) (many_supporting g q x) (at_one x (supporting_points g q) inside.0 inside.1 inside.2)
@@ -124,12 +124,12 @@ module _ (g : Dataflow) (q : ProcessorState) (c stays : DeltaValue) (held : List
 -- ---- a loop's step: the first of the requests that are left
 
 module _ (keeps : Pointstamp → Bool) (before all : List Pointstamp) (e : Pointstamp × Unit {0}) (es rest : List (Pointstamp × Unit {0})) (step : es ≡ e ∷ rest)
-    (so_far : before ++ filter keeps (map (λ z. z.0) es) ≡ all) where
+    (so_far : before ++ filter keeps (map (λ (z : Pointstamp × Unit {0}). z.0) es) ≡ all) where
   abbrev left : List Pointstamp
   left = filter keeps (map (λ (z : Pointstamp × Unit {0}). z.0) rest)
 
   turned : before ++ cond (keeps e.0) (e.0 ∷ left) left ≡ all
-  turned = ap (λ (zs : List (Pointstamp × Unit {0})). before ++ filter keeps (map (λ z. z.0) zs)) (sym step) ∙ so_far
+  turned = ap (λ (zs : List (Pointstamp × Unit {0})). before ++ filter keeps (map (λ (z : Pointstamp × Unit {0}). z.0) zs)) (sym step) ∙ so_far
 
   pub kept_more : keeps e.0 ≡ true → (new : List Pointstamp) → new ≡ before ++ e.0 ∷ [] → new ++ left ≡ all
   kept_more yes new pushed =
