@@ -36,15 +36,12 @@ release_moves p q vertex t (Some to) found = by to.time to.keep
     by u true = request_made p q (point_at vertex u)
     by u false = moves_then (request_goes p q (point_at vertex t) found) (request_made p _ (point_at vertex u))
 
-gone_plain : (p vertex : ℕ) (times : Times) → Each IsPlain (gone_changes p vertex times)
-gone_plain p vertex times = by (is_kept times.to)
-  where
-    abbrev y : Pointstamp
-    y = point_at vertex times.time
+plain_unless : (p : ℕ) (y : Pointstamp) (kept : Bool) → Each IsPlain (cond kept [] (at_key p (Request y) (negsuc 0) ∷ at_key p (Unsent y) (negsuc 0) ∷ []))
+plain_unless p y true = tt
+plain_unless p y false = two_plain p p (Request y) y (negsuc 0) (λ h. h) (omega arith) [] tt
 
-    by : (b : Bool) → Each IsPlain (cond b [] (at_key p (Request y) (negsuc 0) ∷ at_key p (Unsent y) (negsuc 0) ∷ []))
-    by true = tt
-    by false = two_plain p p (Request y) y (negsuc 0) (λ h. h) (omega arith) [] tt
+gone_plain : (p vertex : ℕ) (times : Times) → Each IsPlain (gone_changes p vertex times)
+gone_plain p vertex times = plain_unless p (point_at vertex times.time) (is_kept times.to)
 
 later_plain : (p vertex : ℕ) (to : Option Later) (asks : Bool) → Each IsPlain (later_changes p vertex to asks)
 later_plain p vertex None asks = tt
