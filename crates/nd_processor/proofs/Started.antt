@@ -38,7 +38,7 @@ depth_there [] rest l d lt = absurd (omega arith)
 depth_there (v ∷ vertices) rest zero d lt = refl
 depth_there (v ∷ vertices) rest (suc l) d lt = depth_there vertices rest l d (omega arith)
 
-pub take_zeros : (n m : ℕ) → n ≤ m → take n (replicate m 0) ≡ replicate n 0
+pub take_zeros : (n m : ℕ) → n ≤ m → take {A = ℕ} n (replicate m 0) ≡ replicate n 0
 take_zeros zero m le = refl
 take_zeros (suc n) zero le = absurd (omega arith)
 take_zeros (suc n) (suc m) le = ap (λ zs. 0 ∷ zs) (take_zeros n m (omega arith))

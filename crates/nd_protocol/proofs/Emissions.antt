@@ -1,5 +1,6 @@
 -- What a vertex emits, or sends from a capability, is at strictly later pointstamps.
-use Rattle.std.proofs.Common.{◌≡◌, ℕ, ◌+◌, ◌≤◌, ℤ, Bool, true, false, cond, ◌&&◌, List, [], ◌∷◌, length, refl, sym, ap, subst, subst₂, ◌∙◌, arith}
+use Rattle.std.proofs.Common.{◌≡◌, ℕ, ◌+◌, ◌≤◌, ℤ, true, false, cond, ◌&&◌, List, [], ◌∷◌, length, refl, sym, ap, subst, subst₂, ◌∙◌, arith}
+use Rattle.std.proofs.lemmas.Bool.{and_parts}
 use Rattle.std.proofs.lemmas.Bool.Decides.{nat_tests}
 use Rattle.std.specs.Prelude.{Contains, nat_eq, slice_get, Option, Some, None}
 use Rattle.nd_time.specs.Time.{Time, IsAtOrBefore}
@@ -21,11 +22,7 @@ use Rattle.nd_protocol.proofs.Shape.{AllAt}
 use Rattle.nd_protocol.proofs.Arcs.{past, along, along_later, in_rest}
 use Rattle.nd_protocol.proofs.Counts.{AllAt-append}
 
-first : (a b : Bool) → (a && b) ≡ true → a ≡ true
-first true b e = refl
-first false b e = absurd (cc)
-
-same_number : (a b : ℕ) → nat_eq a b ≡ true → a ≡ b
+pub same_number : (a b : ℕ) → nat_eq a b ≡ true → a ≡ b
 same_number a b e = grind (arith, nat_tests, e)
 
 pub AllAt-wider : (G K : Pointstamp → Type 0) → ((x : Pointstamp) → G x → K x) → (rs : List (ℕ × ValueAt)) → AllAt G rs → AllAt K rs
@@ -43,7 +40,7 @@ made_later G dest n p vertex port v t vs l (e ∷ es) each =
     let here : AllAt G (cond (nat_eq e.from vertex && nat_eq e.port port) (r ∷ []) []) =
     elim (nat_eq e.from vertex && nat_eq e.port port) as (λ b. (nat_eq e.from vertex && nat_eq e.port port) ≡ b → AllAt G (cond b (r ∷ []) [])) [
       | true ↦ λ test.
-          let from : e.from ≡ vertex = same_number e.from vertex (first (nat_eq e.from vertex) (nat_eq e.port port) test) in
+          let from : e.from ≡ vertex = same_number e.from vertex (and_parts (nat_eq e.from vertex) (nat_eq e.port port) test).0 in
           (each out (0, omega arith, refl) from (ap (action_at vs) from), tt)
       | false ↦ λ test. tt
     ] refl in

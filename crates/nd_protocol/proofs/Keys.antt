@@ -34,7 +34,6 @@ use Rattle.nd_protocol.specs.Ranges.{IsSmall, TimesAreSmall, IsValue}
 use Rattle.nd_protocol.specs.Times.{GoesLater}
 use Rattle.nd_protocol.specs.declared.times.Later.{Later}
 use Rattle.nd_protocol.proofs.Shape.{GoesOn}
-use Rattle.nd_time.specs.Limits.{max_counter}
 use Rattle.std.proofs.lemmas.List.Elements.{All-nil, All-cons}
 use Rattle.nd_protocol.specs.Fitting.{IsOrdered, IsAtVertex, IsAtEdge, ProcessorFits}
 use Rattle.std.proofs.lemmas.Bool.{cases_eq}

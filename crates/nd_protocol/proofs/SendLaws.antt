@@ -1,5 +1,5 @@
 -- The laws of sends: what is sent is later, and not passed, and nothing else changes.
-use Rattle.std.proofs.Common.{◌≡◌, inr, ℕ, ◌+◌, ◌-◌, ◌<◌, ◌≤◌, pos, ◌+ℤ◌, ◌-ℤ◌, length, get_or, count_by, slice_get, Some, refl, sym, ap, subst, ◌∙◌, arith}
+use Rattle.std.proofs.Common.{◌≡◌, inr, ℕ, ◌+◌, ◌-◌, ◌<◌, pos, ◌+ℤ◌, ◌-ℤ◌, length, get_or, count_by, slice_get, Some, refl, sym, ap, subst, ◌∙◌, arith}
 use Rattle.std.proofs.lemmas.Int.{ints}
 use Rattle.std.proofs.lemmas.List.{set-get_or}
 use Rattle.std.specs.Ordering.{int_eq}
@@ -30,7 +30,7 @@ use Rattle.nd_protocol.proofs.EnabledLemmas.{send_possible}
 use Rattle.nd_protocol.proofs.InvariantLemmas.{held}
 use Rattle.nd_protocol.proofs.Ranges.{below_unless}
 use Rattle.nd_protocol.proofs.Sends.{posted_later}
-use Rattle.nd_protocol.proofs.Sent.{records_at, appears, Leaves, all_made, none_made, directed_below}
+use Rattle.nd_protocol.proofs.Sent.{records_at, appears, all_made, none_made, directed_below}
 use Rattle.nd_protocol.proofs.Shape.{sending, performed, done, IsPossible}
 use Rattle.nd_protocol.proofs.StepsLemmas.{after_field, many_stepped, adds}
 

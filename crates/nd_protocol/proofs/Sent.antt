@@ -1,5 +1,5 @@
 -- What a send changes: on each edge of its port, one record more for each value.
-use Rattle.std.proofs.Common.{◌≡◌, ◌⊎◌, inl, inr, ℕ, zero, suc, ◌+◌, ◌-◌, ◌<◌, ◌≤◌, ℤ, pos, negsuc, ◌+ℤ◌, Bool, true, false, cond, ◌&&◌, List, [], ◌∷◌, ◌++◌, length, get_or, count_by, flat_map, unsigned_abs, nat_eq, slice_get, Option, Some, None, refl, sym, ap, subst, ◌∙◌, mod-lt, arith, get_or-set_same, get_or-set_other}
+use Rattle.std.proofs.Common.{◌≡◌, ◌⊎◌, inl, inr, ℕ, zero, suc, ◌+◌, ◌<◌, ℤ, pos, negsuc, ◌+ℤ◌, true, false, cond, ◌&&◌, List, [], ◌∷◌, ◌++◌, length, get_or, count_by, flat_map, unsigned_abs, nat_eq, slice_get, Option, Some, None, refl, sym, ap, subst, ◌∙◌, mod-lt, arith, get_or-set_same, get_or-set_other}
 use Rattle.std.proofs.lemmas.Bool.{and_from, and_parts, cases_eq}
 use Rattle.std.proofs.lemmas.Bool.Decides.{nat_tests, Decides-int_eq}
 use Rattle.std.proofs.lemmas.List.Sums.{sum_by-cons}
@@ -17,6 +17,7 @@ use Rattle.nd_processor.specs.declared.key.ValueAt.{ValueAt}
 use Rattle.nd_protocol.specs.Steps.{directed, made_on, record_key, with_record, with_records}
 use Rattle.nd_protocol.proofs.Shape.{AllAt}
 use Rattle.nd_protocol.proofs.Counts.{kept-set, length-records}
+use Rattle.nd_protocol.proofs.Emissions.{same_number}
 use Rattle.nd_protocol.proofs.Keys.{set_cases}
 
 -- the number of records of a key on processor k
@@ -61,7 +62,7 @@ with_records-append qs (r ∷ rs) ss = with_records-append (with_record qs r) rs
 -- ---- the records of some values
 
 both_equal : (a b c d : ℕ) → (nat_eq a b && nat_eq c d) ≡ true → (a ≡ b) × (c ≡ d)
-both_equal a b c d e = let both = and_parts (nat_eq a b) (nat_eq c d) e in (grind (arith, nat_tests, both.0), grind (arith, nat_tests, both.1))
+both_equal a b c d e = let both = and_parts (nat_eq a b) (nat_eq c d) e in (same_number a b both.0, same_number c d both.1)
 
 equal : (a b : ℕ) → a ≡ b → nat_eq a b ≡ true
 equal a b e = grind (arith, nat_tests, e)

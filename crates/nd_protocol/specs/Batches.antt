@@ -1,5 +1,5 @@
 -- The batches that steps send, encoded as numbers.
-use Rattle.std.specs.Prelude.{◌≡◌, ℕ, ℤ, List, Option, refl}
+use Rattle.std.specs.Prelude.{ℕ, ℤ, List, Option, refl}
 use Rattle.std.specs.Coded.{Coded, code_by, coded×, coded_ℕ, coded_ℤ, coded_list, coded_option}
 use Rattle.nd_time.specs.Time.{Time}
 use Rattle.nd_time.specs.Listing.{time_code}
