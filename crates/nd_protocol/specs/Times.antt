@@ -1,5 +1,5 @@
 -- The times of a capability that is released.
-use Rattle.std.specs.Prelude.{◌≡◌, ◌≢◌, ⊤, Bool, false, Option, Some, None, refl}
+use Rattle.std.specs.Prelude.{◌≢◌, ⊤, Bool, false, Option, Some, None, refl}
 use Rattle.std.specs.Coded.{Coded, code_by, coded×, coded_bool, coded_option}
 use Rattle.nd_time.specs.Time.{Time, IsAtOrBefore}
 use Rattle.nd_time.specs.Listing.{time_code}

@@ -12,7 +12,9 @@ mod times;
 mod values;
 
 pub use batch::{Batch, BoxedBatch};
-pub use laws::{protocol_is_safe, sends_are_later, starts_keep_protocol, steps_keep_protocol, truth_is_small};
+pub use laws::{
+    protocol_is_safe, sends_are_later, starts_keep_protocol, steps_keep_protocol, truth_is_small,
+};
 pub use nd_time::NoMemory;
 pub use numbers::times_are_small;
 pub use part::{Part, Points};
