@@ -52,7 +52,7 @@ one_kept false true one rest kept other is = let none : one ≡ 0 = other (λ e.
 one_kept false false one rest kept other is = is
 
 module _ (keeps : Pointstamp → Bool) (x : Pointstamp) where
-  none_either : (b : Bool) → 0 ≡ cond b 0 0
+  none_either : (b : Bool) → ◌≡◌ {A = ℕ} 0 (cond b 0 0)
   none_either true = refl
   none_either false = refl
 
@@ -132,8 +132,8 @@ module _ (keeps : Pointstamp → Bool) (before all : List Pointstamp) (e : Point
   turned = ap (λ (zs : List (Pointstamp × Unit {0})). before ++ filter keeps (map (λ (z : Pointstamp × Unit {0}). z.0) zs)) (sym step) ∙ so_far
 
   pub kept_more : keeps e.0 ≡ true → (new : List Pointstamp) → new ≡ before ++ e.0 ∷ [] → new ++ left ≡ all
-  kept_more yes new pushed =
-      ap (λ ys. ys ++ left) pushed ∙ append_assoc before (e.0 ∷ []) left ∙ ap (λ b. before ++ cond b (e.0 ∷ left) left) (sym yes) ∙ turned
+  kept_more kept new pushed =
+      ap (λ ys. ys ++ left) pushed ∙ append_assoc before (e.0 ∷ []) left ∙ ap (λ b. before ++ cond b (e.0 ∷ left) left) (sym kept) ∙ turned
 
   pub passed_over : keeps e.0 ≡ false → before ++ left ≡ all
-  passed_over no = ap (λ b. before ++ cond b (e.0 ∷ left) left) (sym no) ∙ turned
+  passed_over other = ap (λ b. before ++ cond b (e.0 ∷ left) left) (sym other) ∙ turned

@@ -46,7 +46,7 @@ returns-clause-comes g c =
     record {
       to = to;
       edge = edge;
-      is = c.record_on-come.ensures ∙ ap (λ a. Record a to edge e.value) (c.action.ensures ∙ ap action_of c.op_at.ensures.op);
+      is = c.record_on-come.ensures ∙ ap (λ a. Record a to edge e.value) (c.action-action.ensures ∙ ap action_of c.op_at.ensures.op);
       made = one_made by.graph.now by.n by.p by.vertex e (c.in_ok-i.i, c.in_ok-i.route) only to edge (λ i. to) (c.edge_at-edge.ensures ∙ ap (λ l. l + c.in_ok-i.i) c.first_edge.ensures.first);
       apart = λ same. true≢false (sym (same_key point_total gone.point)
           ∙ ap (λ x. eq_by_cmp point_cmp x gone.point) (sym same)
