@@ -128,7 +128,7 @@ impl<A: Allocator + Copy> Cluster<A> {
         self.processor(p as usize).has_request(&point)
     }
 
-    // Returns an error unless a vertex of a processor holds the capability, and supports a later one if it is kept along with it: why
+    // Returns an error unless a vertex of a processor holds the capability, and supports a later one if it stays beside it: why
     // its release is refused.
     pub(crate) fn release_kept(&self, p: u32, vertex: usize, times: &Times) -> Result<(), Refusal>
         ensures kept { OnOk result (fin.get (processor self.now p).requests
@@ -204,7 +204,8 @@ impl<A: Allocator + Copy> Cluster<A> {
 
     // Returns why a send that is within the limits is refused, or none if it is not.
     fn post_last(&self, p: u32, vertex: usize, batch: &Batch<A>) -> Option<Refusal>
-        ensures { IsLastRefusal {A = A} self.now (Posting p vertex batch.now) result }
+        ensures { IsWithinRules A self.now (Posting p vertex batch.now)
+            → IsLastRefusal {A = A} self.now (Posting p vertex batch.now) result }
     {
         if batch.port >= op_at(self.graph(), vertex).ports() {
             return Some(Refusal::NoPort);

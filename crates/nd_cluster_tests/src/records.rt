@@ -2,7 +2,7 @@
 //! processors a cluster may have.
 
 use nd_cluster::{Changes, Cluster, Next, Record, StartFault, Step};
-use nd_examples::{ADD, EXCHANGE, LINE, LOOP, SUM, Sent, TRACED, Told, graph_of, reach, step_of};
+use nd_examples::{ADD, EXCHANGE, LINE, LOOP, SUM, Told, graph_of, reach, step_of};
 use std::alloc::Global;
 use std::mem::size_of;
 
@@ -109,10 +109,11 @@ static FEEDS: [(&'static [i64], Next, bool); 10] = [
     (&[7], Next::Close, false),
 ];
 
-/// Returns whether the small record of a step after others has no list.
-fn keeps_no_list(alloc: Global, text: &str, before: &[Told], told: &Told) -> Option<bool> {
-    let cluster = reach(alloc, alloc, text, 1, before)?;
-    let step = step_of(alloc, cluster.graph(), told)?;
+/// Returns whether the small record of a feed of *line*, after another, has no list.
+fn keeps_no_list(alloc: Global, before: Next, values: &'static [i64], next: Next) -> Option<bool> {
+    let before = [Told::Feed(0, "a", &[7], before)];
+    let cluster = reach(alloc, alloc, LINE, 1, &before)?;
+    let step = step_of(alloc, cluster.graph(), &Told::Feed(0, "a", values, next))?;
     let record = cluster.plan(&step).ok()?.small();
     Some(matches!(record.changes, Changes::Fed(_)))
 }
@@ -121,43 +122,8 @@ fn keeps_no_list(alloc: Global, text: &str, before: &[Told], told: &Told) -> Opt
 fn feeds_in_order_are_kept_without_a_list(rt: HostRuntime) {
     for before in [Next::Stay, Next::Next, Next::To(5)] {
         for (i, (values, next, wanted)) in FEEDS.iter().enumerate() {
-            let before = [Told::Feed(0, "a", &[7], before)];
-            let found = keeps_no_list(
-                rt.alloc(),
-                LINE,
-                &before,
-                &Told::Feed(0, "a", values, *next),
-            );
+            let found = keeps_no_list(rt.alloc(), before, values, *next);
             assert!(rt; found == Some(*wanted), "in row {i}");
         }
-    }
-}
-
-/// The time of the records of a send, if it is another than that of the capability, its values, and whether the record of
-/// it has no list.
-static SENDS: [(Option<&'static [u32]>, &'static [i64], bool); 5] = [
-    (None, &[7], true),
-    (Some(&[2]), &[1, 2, 8], true),
-    (None, &[], true),
-    (None, &[2, 1], false),
-    (Some(&[2]), &[7, 7], false),
-];
-
-#[test]
-fn sends_in_order_are_kept_without_a_list(rt: HostRuntime) {
-    let before = [
-        Told::Feed(0, "a", &[7], Next::Close),
-        Told::Take(0, "ax", &[0], 7),
-    ];
-    for (i, (at, values, wanted)) in SENDS.iter().enumerate() {
-        let sent = Sent {
-            time: &[0],
-            at: *at,
-            port: 1,
-            values,
-            dest: None,
-        };
-        let found = keeps_no_list(rt.alloc(), TRACED, &before, &Told::Send(0, "x", sent));
-        assert!(rt; found == Some(*wanted), "in row {i}");
     }
 }

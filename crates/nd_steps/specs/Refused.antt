@@ -1,5 +1,5 @@
 -- Why a broadcast or a receive is refused, in terms of the parts of a cluster that it uses (this project's own rule).
-use Rattle.std.specs.Prelude.{◌≡◌, ◌≢◌, List, [], ◌++◌, Some, filter, slice_get}
+use Rattle.std.specs.Prelude.{◌≡◌, ◌≢◌, Bool, List, [], ◌++◌, Some, filter, slice_get}
 use Rattle.std.specs.FinMap as fin
 use Rattle.nd_graph.specs.Graph.{Dataflow, op_at}
 use Rattle.nd_graph.specs.Operators.{facts}
@@ -16,10 +16,14 @@ use Rattle.nd_protocol.specs.declared.part.Part.{Part}
 use Rattle.nd_protocol.specs.declared.refusal.Refusal.{Refusal}
 use Rattle.nd_protocol.specs.declared.refusal.Refusal.TheVariants.{NothingToSend, NotAdmissible, QueueEmpty, DeltaFull, Memory}
 
+-- whether a capability supports at this pointstamp
+abbrev pub supports_at : Dataflow → Pointstamp → Bool
+supports_at g x = (facts (op_at g x.location)).supports
+
 -- the pointstamps that support what a processor has not sent: those of its tokens, and of the capabilities that it holds at vertices
 -- whose capabilities support
 abbrev pub supporting_points : Dataflow → ProcessorState → List Pointstamp
-supporting_points g q = token_points q ++ filter (λ x. (facts (op_at g x.location)).supports) (fin.keys q.requests)
+supporting_points g q = token_points q ++ filter (supports_at g) (fin.keys q.requests)
 
 -- after a processor has sent c, what stays is upright, given the tokens and capabilities that the processor holds
 abbrev pub LeavesUpright : Dataflow → ProcessorState → DeltaValue → Type 0

@@ -1,22 +1,19 @@
-//! Feeds and sends that are kept in little memory: the step determines most of the changes.
+//! Feeds that are kept in little memory: the step determines most of the changes.
 ghost use Rattle.std.specs.Prelude.{◌≡◌, ◌≤◌, ◌+◌, ◌++◌, IfSome, length};
-ghost use Rattle.nd_protocol.specs.Steps.{batch_time, flat};
-ghost use Rattle.nd_steps.specs.Fed.{values_of, time_of, arrived as arrived_at, announced, moved, rest_of, fed_changes};
+ghost use Rattle.nd_steps.specs.Fed.{values_of, arrived as arrived_at, announced, moved, rest_of, fed_changes};
 
 use crate::feed::moves;
 use crate::flow::MOST;
 use crate::told::Told;
 use crate::{Change, Slot, record_at};
 use arrayvec::ArrayVec;
-use nd_paths::Pointstamp;
 use nd_processor::token_point;
-use nd_protocol::{Batch, Step};
+use nd_protocol::Step;
 use nd_time::Timestamp;
 use std::alloc::Allocator;
 
-/// The part of the changes of a feed or a send that the step doesn't determine. The changes list the records in the
-/// order of the values, each value once, on one edge and at one processor. A send has no token, and its step says the
-/// time.
+/// The part of a feed's changes that the step doesn't determine. The changes list the records in the order
+/// of the values, each value once, on one edge and at one processor.
 #[derive(Clone, Copy, Debug, Default, PartialEq, Eq, Drop)]
 pub struct FedAt {
     /// The edge on which the values arrive.
@@ -31,19 +28,18 @@ pub struct FedAt {
     pub late: bool,
 }
 
-// Returns the values of a feed or a send, none if the step is neither.
+// Returns the values of a feed, none if the step is not a feed.
 fn fed_values<A: Allocator>(step: &Step<A>) -> &[i64]
     ensures { result.now ≡ values_of step.now }
 {
     match step {
         Step::Feed { values, .. } => values.as_slice(),
-        Step::Send { batch, .. } => batch.get().values.as_slice(),
         Step::Take { .. } | Step::Notice { .. } | Step::Release { .. } => &[],
-        Step::Broadcast { .. } | Step::Receive { .. } => &[],
+        Step::Send { .. } | Step::Broadcast { .. } | Step::Receive { .. } => &[],
     }
 }
 
-// Guesses from the changes of a feed into `vertex`, or of a send from it, where the records arrive and where the token moves.
+// Guesses from the changes of a feed into `vertex` where its records arrive and where its token moves.
 fn guessed(vertex: usize, changes: &[Change]) -> FedAt {
     let mut at = FedAt::default();
     let mut next = None;
@@ -70,50 +66,30 @@ fn guessed(vertex: usize, changes: &[Change]) -> FedAt {
 }
 
 impl FedAt {
-    // Returns the epoch of the token before a feed, as a time.
-    fn first_time(&self) -> Timestamp
-        ensures { result ≡ flat self.now.epoch }
+    // Returns the change by which a value arrives.
+    pub(crate) fn arrived(&self, value: i64) -> Change
+        ensures { result ≡ arrived_at self.now value }
     {
-        Timestamp::new(self.epoch, &[]).unwrap()
-    }
-
-    // Returns the time at which the values of a step arrive.
-    fn time<A: Allocator>(&self, step: &Step<A>) -> Timestamp
-        ensures { result ≡ time_of step.now self.now }
-    {
-        match step {
-            Step::Send { batch, .. } => batch.get().records_time().copy(),
-            _ => self.first_time(),
-        }
-    }
-
-    // Returns the change by which a value arrives at a time.
-    pub(crate) fn arrived(&self, time: &Timestamp, value: i64) -> Change
-        ensures { result ≡ arrived_at self.now time.now value }
-    {
+        let time = Timestamp::new(self.epoch, &[]).unwrap();
         Change {
             p: self.to,
-            slot: Slot::Records(record_at(self.edge, time, value)),
+            slot: Slot::Records(record_at(self.edge, &time, value)),
             n: 1,
         }
     }
 
-    // Appends the change by which processor `p` announces the records at a time, if there are any.
-    fn announce(&self, list: &mut ArrayVec<Change, MOST>, p: u32, time: &Timestamp, many: usize)
+    // Appends the change by which processor `p` announces the records, if there are any.
+    fn announce(&self, list: &mut ArrayVec<Change, MOST>, p: u32, many: usize)
         requires { length list.old.items ≤ 3 }
-        ensures list { list.new.items ≡ list.old.items ++ announced self.now p time.now many }
+        ensures list { list.new.items ≡ list.old.items ++ announced self.now p many }
         ensures few { length list.new.items ≤ length list.old.items + 1 }
     {
         if many == 0 {
             return;
         }
-        let point = Pointstamp {
-            location: self.edge,
-            time: time.copy(),
-        };
         list.push(Change {
             p,
-            slot: Slot::Unsent(point),
+            slot: Slot::Unsent(token_point(self.edge, self.epoch)),
             n: many as i128,
         });
     }
@@ -123,10 +99,9 @@ impl FedAt {
     fn moved(&self, p: u32, vertex: usize, many: usize) -> ArrayVec<Change, MOST>
         ensures { result.items ≡ moved self.now p vertex many }
     {
-        let time = self.first_time();
         let mut list = ArrayVec::new();
         if self.next == self.epoch {
-            self.announce(&mut list, p, &time, many);
+            self.announce(&mut list, p, many);
             return list;
         }
         list.push(Change {
@@ -146,31 +121,17 @@ impl FedAt {
         };
         if self.late {
             list.push(comes);
-            self.announce(&mut list, p, &time, many);
+            self.announce(&mut list, p, many);
             list.push(goes);
         } else {
             list.push(goes);
             list.push(comes);
-            self.announce(&mut list, p, &time, many);
+            self.announce(&mut list, p, many);
         }
         list
     }
 
-    // Lists the change that announces the records of a send by processor `p`.
-    fn posted<A: Allocator>(&self, p: u32, batch: &Batch<A>) -> ArrayVec<Change, MOST>
-        ensures { result.items ≡ announced self.now p (batch_time batch.now) (length batch.now.values) }
-    {
-        let mut list = ArrayVec::new();
-        self.announce(
-            &mut list,
-            p,
-            batch.records_time(),
-            batch.values.as_slice().len(),
-        );
-        list
-    }
-
-    // Lists the changes of a step after those of the records, none if the step is neither a feed nor a send.
+    // Lists the changes of a step after those of the records, none if the step is not a feed.
     pub(crate) fn rest<A: Allocator>(&self, step: &Step<A>) -> ArrayVec<Change, MOST>
         ensures { result.items ≡ rest_of step.now self.now }
     {
@@ -181,9 +142,8 @@ impl FedAt {
                 values,
                 ..
             } => self.moved(*p, *vertex, values.as_slice().len()),
-            Step::Send { p, batch, .. } => self.posted(*p, batch.get()),
             Step::Take { .. } | Step::Notice { .. } | Step::Release { .. } => ArrayVec::new(),
-            Step::Broadcast { .. } | Step::Receive { .. } => ArrayVec::new(),
+            Step::Send { .. } | Step::Broadcast { .. } | Step::Receive { .. } => ArrayVec::new(),
         }
     }
 
@@ -192,18 +152,17 @@ impl FedAt {
         requires { rest.now ≡ rest_of step.now self.now }
         ensures { result ≡ fed_changes step.now self.now }
     {
-        Told::fed(*self, self.time(step), fed_values(step), rest)
+        Told::fed(*self, fed_values(step), rest)
     }
 
     // Returns what stands for these changes of a step, or `None` if it finds nothing that does.
     pub(crate) fn telling<A: Allocator>(step: &Step<A>, changes: &[Change]) -> Option<FedAt>
         ensures { IfSome result (λ f. fed_changes step.now f ≡ changes.now) }
     {
-        let vertex = match step {
-            Step::Feed { vertex, .. } | Step::Send { vertex, .. } => *vertex,
-            _ => return None,
+        let Step::Feed { vertex, .. } = step else {
+            return None;
         };
-        let at = guessed(vertex, changes);
+        let at = guessed(*vertex, changes);
         let rest = at.rest(step);
         if !at.told(step, &rest).is(changes) {
             return None;

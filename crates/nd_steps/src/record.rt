@@ -16,7 +16,7 @@ pub enum Changes<A: Allocator + Copy = Global> {
     Each(Vec<Change, A>),
     /// The part of a take's changes that the step doesn't determine: so small that many steps can be kept.
     Flowed(Flow),
-    /// The same of the changes of a feed or a send, if they list its values in order.
+    /// The same of a feed's changes, if they list its values in order.
     Fed(FedAt),
     /// A part of what is unsent is appended to every queue from `p`.
     Sent {

@@ -1,4 +1,4 @@
-//! The changes of a release: a held capability is dropped, moves to a later time, or is kept along with one at a later time.
+//! The changes of a release: a held capability is dropped, moves to a later time, or stays beside one at a later time.
 ghost use Rattle.std.specs.Prelude.{◌≡◌, IfOk, OnOk};
 ghost use Rattle.nd_steps.specs.Drafts.{gone_changes, later_changes};
 ghost use Rattle.nd_steps.specs.Performers.{Adds, found_released, ReleaseLeads};
@@ -9,7 +9,7 @@ use nd_paths::Pointstamp;
 use nd_protocol::{Later, Times};
 use std::alloc::{AllocError, Allocator};
 
-// Removes the request, unless it is kept along with one at a later time.
+// Removes the request, unless it stays beside one at a later time.
 fn add_gone<A: Allocator + Copy>(
     draft: &mut Draft<A>,
     vertex: usize,

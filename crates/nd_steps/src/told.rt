@@ -3,14 +3,12 @@ ghost use Rattle.std.specs.Prelude.{◌≡◌, ◌<◌, ◌++◌, IfSome, IsTrue
 ghost use Rattle.nd_steps.specs.Fed.{arrived};
 
 use crate::{Change, FedAt};
-use nd_time::Timestamp;
 use std::marker::Model;
 
 /// Changes, in order: one for each value that arrives, and then the rest.
 #[derive(Drop)]
 pub(crate) struct Told<'a> {
     at: FedAt,
-    time: Timestamp,
     values: &'a [i64],
     rest: &'a [Change],
 }
@@ -22,28 +20,22 @@ impl<'a> Model for Told<'a> {
 
     ghost Value = { List Change };
 
-    ghost view = { λ a. map (arrived a.at a.time) a.values.now ++ a.rest.now };
+    ghost view = { λ a. map (arrived a.at) a.values.now ++ a.rest.now };
 }
 
 impl<'a> Told<'a> {
-    // Returns the changes of a feed or a send whose values arrive at a time.
-    pub(crate) fn fed(at: FedAt, time: Timestamp, values: &'a [i64], rest: &'a [Change]) -> Told<'a>
-        ensures { result ≡ map (arrived at time) values.now ++ rest.now }
+    // Returns the changes of a feed whose values arrive.
+    pub(crate) fn fed(at: FedAt, values: &'a [i64], rest: &'a [Change]) -> Told<'a>
+        ensures { result ≡ map (arrived at) values.now ++ rest.now }
     {
-        Told {
-            at,
-            time,
-            values,
-            rest,
-        }
+        Told { at, values, rest }
     }
 
     // Returns the changes of a list.
     pub(crate) fn whole(changes: &'a [Change]) -> Told<'a>
         ensures { result ≡ changes.now }
     {
-        let time = Timestamp::new(0, &[]).unwrap();
-        Told::fed(FedAt::default(), time, &[], changes)
+        Told::fed(FedAt::default(), &[], changes)
     }
 
     // Returns the number of changes.
@@ -60,7 +52,7 @@ impl<'a> Told<'a> {
     {
         let count = self.values.len();
         if i < count {
-            return self.at.arrived(&self.time, self.values[i]);
+            return self.at.arrived(self.values[i]);
         }
         self.rest[i - count].copy()
     }
