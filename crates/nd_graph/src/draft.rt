@@ -23,6 +23,7 @@ const MAX_DEPTH_V1: usize = 4;
 
 /// The maximum number of locations of a graph; the next one is that of the versions before 6 (this project's own rule).
 const MAX_LOCATIONS: usize = 256;
+
 const MAX_LOCATIONS_V5: usize = 64;
 
 /// The maximum number of output ports of an opaque vertex.

@@ -99,10 +99,7 @@ impl Op {
     pub fn asks_for_notices(self) -> bool
         ensures { result ≡ (facts self).asks }
     {
-        matches!(
-            self,
-            Op::Sum | Op::Distinct | Op::Hold | Op::Opaque { .. }
-        )
+        matches!(self, Op::Sum | Op::Distinct | Op::Hold | Op::Opaque { .. })
     }
 
     /// Returns whether a vertex with this operator counts the values that reach it.
