@@ -3,7 +3,7 @@ use Rattle.std.proofs.Common.{◌≡◌, ℕ, ◌<◌, ◌≤◌, ℤ, Bool, tru
 use Rattle.std.specs.Prelude.{All as Each}
 use Rattle.std.specs.declared.alloc.Global.{Global}
 use Rattle.std.proofs.lemmas.List.Elements.{All-head, All-tail}
-use Rattle.nd_json.specs.Forms.{has_keys, has_text, text}
+use Rattle.nd_json.specs.Forms.{has_keys, has_text, text, boolean_in}
 use Rattle.nd_time.specs.Time.{Time}
 use Rattle.nd_graph.specs.Graph.{Dataflow, names}
 use Rattle.nd_graph.specs.Checked.{has_double}
@@ -87,7 +87,7 @@ move_back g p vertex t to false once there depth later h k j =
 
 moved_back : (g : Dataflow) (p vertex : ℕ) (t to : Time) (keep : Bool) → has_double (names g) ≡ false → vertex < length g.vertices → HasDepth g vertex t
     → HasDepth g vertex to → IsSmall p → TimeIsSmall t → TimeIsSmall to → read_of g (move_object g p vertex t to keep) ≡ Ok (moving p vertex t to keep)
-unfolding read_of form_of steps has_keys text keep_of
+unfolding read_of form_of steps has_keys text keep_of boolean_in
 moved_back g p vertex t to true once there depth later h k j = rw (move_back g p vertex t to true once there depth later h k j) refl
 moved_back g p vertex t to false once there depth later h k j = rw (move_back g p vertex t to false once there depth later h k j) refl
 
