@@ -129,8 +129,8 @@ class Worker(threading.Thread):
         self.count(vertex, time, -1)
 
     def send(self, vertex, time, value, port=0, dest=None):
-        """Sends a value on each edge that leaves a port: all that leaves a vertex passes here. On an exchange
-        edge the value chooses the worker, unless one is given."""
+        """Sends a value on each edge that leaves a port: all that leaves a vertex passes here. On an
+        exchange edge the value chooses the worker, unless one is given."""
         for edge in self.graph.leaving(vertex, port):
             record = Record(edge.name, self.graph.time_after(vertex, time), value)
             self.count(record.edge, record.time, +1)
