@@ -14,6 +14,7 @@ from rewind_tools.testing import SECONDS, TOP
 
 THREAD = {"threadId": 1}
 HELD = f"{TOP}/examples/held-capability.jsonl"
+SENDS = f"{TOP}/examples/sends-and-releases.jsonl"
 # A graph in which conditions turn often.
 GRAPH, FEEDS = chain(2, 3, 4)
 OFTEN = ["queue 0 1 1", "count e0 0 1", "view 1 a 0 1", "passed 0 v1 1", "not queue 1 0 1 and queue 0 0 1"]
@@ -71,6 +72,17 @@ class Seen(testing.Case):
         waiting = self.client.variables(2)["Waiting"]
         (said,) = [it for name, it in waiting.items() if "batch" in name]
         self.holds("a hold", said.startswith("53 NotNotified"), said)
+
+    def test_opaque_vertex(self):
+        """The script stops at the send that is refused; the console sends on the other port."""
+        client = self.client
+        client.launch(SENDS, 1, filters=["refused"])
+        said = client.answer("send 0 x 0 1 7 at 3")
+        sent = "processor 0 sends 7 on port 1 at (3), from the capability that it holds at x (0)"
+        self.holds("sends", sent in said, said)
+        self.same("holds", client.variables(1)["Holds"]["capabilities"], "x (0)")
+        waiting = client.variables(1)["Waiting"]["runs the notification of x (0)"]
+        self.holds("waits", waiting.endswith("x is opaque, so it is never notified"), waiting)
 
     def test_many_variables(self):
         """A long list is shown in parts."""
@@ -405,8 +417,8 @@ class Stops(testing.Case):
         lines = client.body("source", sourceReference=1)["content"].splitlines()[len(FEEDS) : -1]
         self.same("steps", {it.split()[1] for it in lines} if lines else {"1"}, {"1"})
         said = client.stop("continue", threadId=2, singleThread=True)
-        self.same("idle", said, "stopped in 2, idle: nothing is enabled on processor 1: only a feed or a"
-                  " release is left")  # fmt: skip
+        self.same("idle", said, "stopped in 2, idle: nothing is enabled on processor 1: only a feed, a"
+                  " send or a release is left")  # fmt: skip
         self.holds("all", "idle" in client.stop("continue", threadId=2))
 
     def test_goto(self):

@@ -130,6 +130,24 @@ class Held(unittest.TestCase):
         why = live.asked("why", {"q": 0, "at": "out", "time": [2]})
         self.assertTrue(why["passed"] and not why["reasons"], why)
 
+    def test_opaque_vertex(self):
+        """A capability at an opaque vertex: what is sent from it, and a later one beside it."""
+        with Served(opening_of("sends-and-releases", 4)) as live:
+            from_x = {"do": "send", "p": 0, "vertex": "x", "time": [0], "port": 1}
+            sent = live.command({**from_x, "values": [9007199254740993], "at": [2]})
+            self.assertFalse(sent["refused"], sent["words"])
+            effect = sent["picture"]["effect"]["words"]
+            self.assertIn("records of value 9007199254740993 on processor 0 at xz (2): from 0 to 1", effect)
+            self.assertEqual(sent["picture"]["steps"]["items"][-1]["kind"], "send")
+            held = [it for it in sent["picture"]["candidates"]["items"] if it["kind"] == "release"]
+            self.assertEqual([it["words"] for it in held], ["processor 0 holds a capability at x (0)"])
+            self.assertIn("x is never notified", held[0]["refused"])
+            kept = live.command({**held[0]["release"], "to": [3], "keep": True})
+            place = kept["picture"]["state"]["places"]["1"]
+            self.assertEqual((place["n"], place["of"]), ("2", "held"))
+            early = live.command({**from_x, "time": [3], "values": [1], "at": [2]})
+            self.assertTrue(early["refused"] and "56 TooEarly" in early["words"][0], early["words"])
+
 
 class Arrows(unittest.TestCase):
     def test_arrows(self):

@@ -12,6 +12,7 @@ from rewind_tools import runs
 from rewind_tools.testing import TOP
 
 VALUES, FEED = "#feed input", "#feed button"
+LISTED = "return document.getElementById('candidates').getAttribute('aria-busy') === 'false'"
 WARNS = "return document.getElementById('warning').open"
 # What a screen reader reads of an element: its own name, its label, or its text.
 NAME = """
@@ -138,6 +139,35 @@ class Ways(unittest.TestCase):
             page.click_text("#only button", "0")
             page.click(page.find("#run"))
             page.says("candidates", "no step is left: every input is closed")
+
+    def test_sends(self):
+        """A capability at an opaque vertex: send from it on a port and at a later time, keep it beside a
+        later one, and try a time that is too early, which keeps what is typed."""
+        values = "#candidates [aria-label='values to send from x (%d) of processor 0']"
+        at = "#candidates [aria-label='the time of what is sent from x (%d) of processor 0']"
+        with Served(opening_of("sends-and-releases", 4)) as live, Page(live) as page:
+            page.at(2, "the page")
+            page.says("candidates", "processor 0 holds a capability at x (0)")
+            page.fill(values % 0, "5 9007199254740993")
+            page.run("document.querySelector('#candidates select').selectedIndex = 1")
+            page.fill(at % 0, "2")
+            page.press("enter")
+            page.at(3, "the send")
+            page.says("effect", "sends 5 and 9007199254740993 on port 1 at (2), from the capability that")
+            page.wait(lambda: page.run(LISTED), "the list of the candidates")
+            page.click(page.find("#candidates input[type=checkbox]"))
+            page.click_text("#candidates form button", "move to")
+            page.at(4, "the later capability")
+            page.says("effect", "processor 0 holds a capability at x (1)")
+            page.says("candidates", "processor 0 holds a capability at x (1)")
+            page.fill(values % 1, "1")
+            page.fill(at % 1, "0")
+            page.press("enter")
+            page.says("said", "56 TooEarly: (0) is not at or after (1)")
+            self.assertEqual(page.run("return document.querySelector(arguments[0]).value", values % 1), "1")
+            page.click_text("#candidates form button", "release")
+            page.at(5, "the release")
+            page.says("effect", "processor 0 no longer holds a capability at x (0)")
 
     def test_every_input_closed(self):
         graph, _ = chain(1, 0, 0)

@@ -194,7 +194,9 @@ class Page(browser.Browser):
         self.wait(lambda: words in self.run(TEXT, element), words)
 
     def press_in(self, selector, *keys):
-        """Gives an element the focus, and presses keys there."""
+        """Gives an element the focus as soon as it is there, and presses keys there."""
+        there = "return Boolean(document.querySelector(arguments[0]))"
+        self.wait(lambda: self.run(there, selector), selector)
         self.run("document.querySelector(arguments[0]).focus()", selector)
         self.press(*keys)
 

@@ -2,13 +2,18 @@
 import glob
 import os
 
-from rewind_tools.script import ATOMS, FORMS, NEXTS, STEPS
+from rewind_tools.script import ATOMS, FORMS, HOLDING, NEXTS, STEPS
 from rewind_tools.typed import JOINTS, NotTyped, wanted, words_of_line
 
 # The prompt's own words that take the values of a word of the script.
 LIKE = {"until": "break", "next": "run"}
 # The operators of the vertices that a command or a condition takes.
-OPS = {"feed": ["input"], "release": ["hold"], "notice": ["sum", "distinct"], "sink": ["sink"]}
+OPS = {
+    "feed": ["input"], "send": ["opaque"], "release": HOLDING, "notice": ["sum", "distinct"],
+    "sink": ["sink"],
+}  # fmt: skip
+# The words that mark what follows them, or stand alone.
+MARKS = ("to", "only", "at", "dest", "keep", "before")
 TAKES_FILE = ("load", "save")
 
 
@@ -45,10 +50,11 @@ def of_kind(prompt, of, kind):
         return map(str, range(prompt.teller.processors))
     if kind == "vertex":
         return [name for name, it in graph.vertices.items() if it["op"] in OPS.get(of, [it["op"]])]
+    if kind in MARKS:
+        return [kind]
     fixed = {
         "edge": graph.edges, "place": graph.order, "points": graph.order, "point": graph.order,
-        "next": [*NEXTS, "to"], "when": [*ATOMS, "not"], "joint": JOINTS, "flag": ["before"],
-        "to": ["to"], "only": ["only"],
+        "next": [*NEXTS, "to"], "when": [*ATOMS, "not"], "joint": JOINTS,
     }  # fmt: skip
     return fixed.get(kind, [])
 

@@ -9,9 +9,10 @@
     with_json(script)        a script's bytes with the graph's line in place of the text, if it has one
 
 A vertex is NAME(OP) where it is first mentioned, and NAME after that. After OP come k=NUMBER, which add,
-mul, below and split must have, and depth=NUMBER. An arrow is --> for the route local and --exchange--> for
-exchange. Between -- and --> may also stand [NAME], the name of the edge, and port=NUMBER. Without them an
-edge from a to b has the name a-b and leaves on port 0.
+mul, below and split must have, ports=NUMBER, which opaque must have, starts=true, which opaque may have,
+and depth=NUMBER. An arrow is --> for the route local and --exchange--> for exchange. Between -- and --> may
+also stand [NAME], the name of the edge, and port=NUMBER. Without them an edge from a to b has the name a-b
+and leaves on port 0.
 
 A depth that is not given follows along the edges from the inputs, which are at depth 0, and from the depths
 that are given. Where there is neither, the first vertex is at depth 0. # begins a comment. A name with other
@@ -27,7 +28,7 @@ import re
 from typing import NamedTuple
 
 from rewind_tools.runs import json_of
-from rewind_tools.script import LAST, NUMBERED_OPS, PLAIN_OPS
+from rewind_tools.script import LAST, MOST_PORTS, OPS, OPTIONAL_OF_OPS
 from rewind_tools.telling import values
 from rewind_tools.telling.forms import listed, nearest
 from rewind_tools.telling.graph_faults import BEYOND, double_names, name_fault, shape_faults, unknown_names
@@ -40,7 +41,8 @@ BLANKS = re.compile(r"[ \t]*")
 # How a text of paths begins in a script.
 BEGINS = re.compile(r'\s*(?:"(?:\\.|[^"\\])*"|[^\s"{}()\[\]]+)\s*(?:\(|--)|[^{]*-->')
 ARROWS = "an arrow is -->, --exchange-->, --[NAME]--> or --port=1-->"
-LIMITS = {"k": values.SIGNED, "depth": values.SMALL, "port": values.SMALL}
+LIMITS = {"k": values.SIGNED, "depth": values.SMALL, "port": values.SMALL, "ports": (0, MOST_PORTS)}
+FLAGS = [key for of in OPS.values() for key, kind in of.items() if kind == "flag"]
 # How many faults of a value are said.
 MOST_FAULTS = 3
 NO_VERTICES = "# no vertices\n"
@@ -143,15 +145,22 @@ def read_number(line, key):
     return int(word)
 
 
+def read_flag(line, key):
+    """The true or false after a key."""
+    word = line.take(WORD)
+    if word not in ("true", "false"):
+        raise line.wrong(f"{key}= needs true or false")
+    return word == "true"
+
+
 def read_op(line, name):
     """What stands in the brackets of a vertex: its operator, and the numbers that are given."""
     line.take("")
     begin = line.at
     op = line.take(WORD)
-    ops = PLAIN_OPS + NUMBERED_OPS
-    if op not in ops:
-        near = nearest(op, ops) if op else None
-        hint = f"the nearest is {near}" if near else f"the operators are {listed(ops)}"
+    if op not in OPS:
+        near = nearest(op, OPS) if op else None
+        hint = f"the nearest is {near}" if near else f"the operators are {listed(OPS)}"
         is_none = f"{op} is no operator" if op else f"the operator of {name} is missing: {line.here()}"
         raise line.wrong(f"{is_none}; {hint}", begin)
     given = {}
@@ -162,16 +171,24 @@ def read_op(line, name):
             raise line.wrong("a number has its key before it, as k=1 or depth=1", at)
         if key is None:
             raise line.wrong(f"the ')' of {name} is missing: {line.here()}")
-        if key not in ("k", "depth"):
-            raise line.wrong(f"{key} is no key of a vertex; the keys are k and depth", at)
-        if key == "k" and op not in NUMBERED_OPS:
-            raise line.wrong(f"{op} has no k; {listed(NUMBERED_OPS)} have one", at)
-        if key in given:
-            raise line.wrong(f"{key} is given twice", at)
-        given[key] = read_number(line, key)
-    if op in NUMBERED_OPS and "k" not in given:
-        raise line.wrong(f"{op} needs a number k, as {written(name)}({op} k=1)", begin)
+        wrong = key_fault(op, key)
+        if wrong or key in given:
+            raise line.wrong(wrong or f"{key} is given twice", at)
+        given[key] = read_flag(line, key) if key in FLAGS else read_number(line, key)
+    for key in OPS[op]:
+        if key not in given and key not in OPTIONAL_OF_OPS:
+            raise line.wrong(f"{op} needs a number {key}, as {written(name)}({op} {key}=1)", begin)
     return op, given
+
+
+def key_fault(op, key):
+    """What is wrong with a key in the brackets of a vertex, None if nothing is."""
+    having = {it: [op for op, of in OPS.items() if it in of] for it in ("k", "ports", "starts")}
+    if key == "depth" or op in having.get(key, ()):
+        return None
+    if key in having:
+        return f"{op} has no {key}, which is a key of {listed(having[key])}"
+    return f"{key} is no key of a vertex; the keys are {listed(['depth', *having])}"
 
 
 def read_vertex(line, parts):
@@ -285,8 +302,8 @@ def read(lines, first=1):
             why = f"{name} would be at depth {known[name]}, since an egress is outside of all loops"
             advice = "an ingress enters a loop, and depth=1 after an operator gives a depth"
             raise at_place(it.number, it.column, f"{why}; {advice}")
-        number = {"k": it.given["k"]} if "k" in it.given else {}
-        vertices.append({"name": name, "op": it.op, "depth": known[name], **number})
+        more = {key: it.given[key] for key in OPS[it.op] if key in it.given}
+        vertices.append({"name": name, "op": it.op, "depth": known[name], **more})
     return {"vertices": vertices, "edges": parts.edges}
 
 
@@ -338,9 +355,9 @@ class Printing:
             return written(name)
         it = self.vertices[self.declared]
         self.declared += 1
-        number = f" k={it['k']}" if "k" in it else ""
-        depth = f" depth={it['depth']}" if name in self.given else ""
-        return f"{written(name)}({it['op']}{number}{depth})"
+        keys = [key for key in OPS[it["op"]] if key in it] + ["depth"] * (name in self.given)
+        given = "".join(f" {key}={values.shown(it[key])}" for key in keys)
+        return f"{written(name)}({it['op']}{given})"
 
     def declare(self):
         """Adds the next vertex in a line of its own."""

@@ -17,11 +17,12 @@ from rewind_tools.typed import NotTyped, condition_help, line_of, usage, words_o
 
 LIMIT = 1000
 # How wide the forms in the help are.
-WIDTH = 49
+WIDTH = 56
 # Of each word of the script what it does.
 KINDS = {
     "feed": "give values to an input", "take": "consume a record; alone, the first that is enabled",
     "notice": "deliver a notification; alone, the first that is enabled",
+    "send": "send values from a capability that an opaque vertex holds",
     "release": "give up a held capability, or move it to a later time; alone, list all that are held",
     "run": f"execute at most N steps, {LIMIT} if not given, of all processors or of some only",
     "broadcast": "send progress updates; alone, the first that is enabled", "jump": "go to position N",
@@ -88,7 +89,7 @@ class Prompt(cmd.Cmd, Debugger):
             raise NotTyped(f"{words[0]} is no command; 'help' lists them")
         if words == ["release"]:
             return self.held()
-        if words[0] in STEPS and len(words) == 1 and words[0] != "feed":
+        if words[0] in STEPS and len(words) == 1 and words[0] not in ("feed", "send"):
             return self.first_of(words[0])
         return self.ask(line_of(words, {} if words[0] in STEPS else self.defaults()))
 
@@ -116,7 +117,7 @@ class Prompt(cmd.Cmd, Debugger):
         return self.ask(value)
 
     def held(self):
-        """Says which capabilities hold vertices hold, each as the line that releases it."""
+        """Says which capabilities are held, each as the line that releases it."""
         state = self.session.ask({"do": "state"})["state"]
         held = [
             f"release {p} {vertex} {','.join(map(str, time))}"
@@ -124,7 +125,7 @@ class Prompt(cmd.Cmd, Debugger):
             for vertex, time in it["requests"]
             if vertex in self.teller.graph.holds
         ]
-        for it in held or ["no hold vertex holds a capability"]:
+        for it in held or ["no capability is held"]:
             self.say(it)
 
     # ---- the prompt's own words

@@ -10,10 +10,14 @@ STEPS = {
     "feed": {"p": "small", "vertex": "vertex", "values": "values", "next": "next"},
     "take": {"p": "small", "edge": "edge", "time": "time", "value": "signed"},
     "notice": {"p": "small", "vertex": "vertex", "time": "time"},
-    "release": {"p": "small", "vertex": "vertex", "time": "time", "to": "time"},
+    "send": {
+        "p": "small", "vertex": "vertex", "time": "time", "port": "port", "values": "values", "at": "time",
+        "dest": "small",
+    },
+    "release": {"p": "small", "vertex": "vertex", "time": "time", "to": "time", "keep": "flag"},
     "broadcast": {"p": "small", "part": "points"},
     "receive": {"from": "small", "to": "small"},
-}
+}  # fmt: skip
 COMMANDS = {
     **STEPS,
     "back": {},
@@ -42,23 +46,35 @@ QUERIES = {
 FORMS = {**COMMANDS, **QUERIES}
 # The keys of each word that a line may leave out, each with the version with which it came.
 OPTIONAL = {
-    "broadcast": {"part": 1}, "frontier": {"at": 4}, "why": {"before": 4}, "release": {"to": 5},
-    "run": {"only": 5},
+    "broadcast": {"part": 1}, "frontier": {"at": 4}, "why": {"before": 4}, "release": {"to": 5, "keep": 6},
+    "run": {"only": 5}, "send": {"at": 6, "dest": 6},
 }  # fmt: skip
+# A key that may be left out, but not beside another: that key by the word and the key.
+NEEDED_BY = {("release", "to"): "keep"}
 # The version with which a word came, if it is not the first, and the last version that there is.
 SINCE = {
     "export": 2, "why": 3, "changes": 3, "step": 3, "candidates": 4, "effect": 4, "turns": 4, "release": 5,
+    "send": 6,
 }  # fmt: skip
-LAST = 5
+LAST = 6
 # The words of "next"; from a later version on, it may also be {"to": n}.
 NEXTS, NEXT_TO_SINCE = ("next", "close", "stay"), 5
 # The most processors under "only".
 MOST_ONLY = 16
-# The operators: those that have a number "k", and the others; the version with which one came, if it is not
-# the first.
+# The operators, each with the keys that its vertices have beside their name, their operator and their depth,
+# and those that they may have; the version with which one came, if it is not the first.
 PLAIN_OPS = ("input", "ingress", "egress", "feedback", "sum", "distinct", "sink", "hold")
 NUMBERED_OPS = ("add", "mul", "below", "split")
-OPS_SINCE = {"hold": 5}
+OPS = {
+    **{op: {} for op in PLAIN_OPS}, **{op: {"k": "signed"} for op in NUMBERED_OPS},
+    "opaque": {"ports": "ports", "starts": "flag"},
+}  # fmt: skip
+OPTIONAL_OF_OPS = ("starts",)
+OPS_SINCE = {"hold": 5, "opaque": 6}
+# The operators whose requests are held capabilities.
+HOLDING = ("hold", "opaque")
+# The most output ports of an opaque vertex.
+MOST_PORTS = 16
 # The atoms of a condition: what stands under the only key of each.
 ATOMS = {
     "passed": {"q": "small", "at": "place", "time": "time"},
@@ -84,7 +100,7 @@ ERRORS = {
     31: "BadShape",
     32: "UnknownName", 33: "LineTooLong", 34: "BadTime", 35: "BadClient", 36: "OneClientOnly",
     50: "BadRange", 51: "NoWorkers",
-    52: "Missing", 53: "NotNotified", 54: "NotLater",
+    52: "Missing", 53: "NotNotified", 54: "NotLater", 55: "NoPort", 56: "TooEarly",
 }  # fmt: skip
 
 
@@ -107,7 +123,7 @@ def form_of(word, version):
 
 def ops_of(version):
     """The operators of a script's version."""
-    return [op for op in PLAIN_OPS + NUMBERED_OPS if OPS_SINCE.get(op, 1) <= version]
+    return [op for op in OPS if OPS_SINCE.get(op, 1) <= version]
 
 
 def atoms_of(version):

@@ -1,4 +1,4 @@
-"""One process of the program that is asked line by line, in the last version of the script.
+"""One process of the program that is asked line by line, in the last version of the script that it reads.
 
     from rewind_tools.session import Session, Ended
     session = Session(graph, ["--processors", "2"])

@@ -4,24 +4,26 @@
                                                  "next": "next"}
     line_of("release 0 keep 0 to 3".split())     {"do": "release", "p": 0, "vertex": "keep", "time": [0],
                                                  "to": [3]}
+    line_of("send 0 x 0 1 5 at 2".split())       {"do": "send", "p": 0, "vertex": "x", "time": [0],
+                                                 "port": 1, "values": [5], "at": [2]}
     wanted(["feed", "0"])                        what may be typed next: [("feed", "vertex")]
 
 Values stand in the order of the grammar's keys. A time is its numbers with commas and no spaces, as 0 or
-0,1; a point is a location and a time; values end at the first word that is no number. NotTyped says what is
-missing or wrong, in words."""
+0,1; a point is a location and a time; values end at the first word that is no number. A flag is its key
+alone. NotTyped says what is missing or wrong, in words."""
 import shlex
 
 from rewind_tools.script import ATOMS, FORMS, MOST_LITERALS, NEXTS, OPTIONAL
 
 JOINTS = {"and": "all", "or": "any"}
 # The keys that are typed by their own name, with the value after it.
-MARKED = {"release": ["to"], "run": ["only"]}
+MARKED = {"send": ["at", "dest"], "release": ["to"], "run": ["only"]}
 # What stands for a kind of value in the form that help shows, and under some keys in place of that.
 SHOWN = {
-    "small": "P", "whole": "N", "signed": "N", "vertex": "VERTEX", "edge": "EDGE", "place": "LOCATION",
-    "time": "TIME",
+    "small": "P", "port": "PORT", "whole": "N", "signed": "N", "vertex": "VERTEX", "edge": "EDGE",
+    "place": "LOCATION", "time": "TIME",
     "point": "LOCATION TIME", "points": "LOCATION TIME ...", "values": "VALUE ...",
-    "next": "|".join([*NEXTS, "to N"]), "when": "CONDITION", "flag": "before", "processors": "P ...",
+    "next": "|".join([*NEXTS, "to N"]), "when": "CONDITION", "processors": "P ...",
     "joint": "and|or",
 }  # fmt: skip
 KEYS_SHOWN = {"lo": "FROM", "hi": "TO", "workers": "THREADS", "value": "VALUE"}
@@ -98,7 +100,7 @@ class Words:
         if kind in READERS:
             return READERS[kind](self)
         word = self.take(kind, KEYS_SHOWN.get(key))
-        return number(word) if kind in ("small", "whole", "signed") else word
+        return number(word) if kind in ("small", "port", "whole", "signed") else word
 
     def points(self):
         points = []
@@ -149,7 +151,6 @@ READERS = {
     "processors": Words.processors,
     "when": Words.condition,
     "next": Words.next,
-    "flag": lambda words: words.take("flag") == "before",
 }
 
 
@@ -160,7 +161,7 @@ def usage(word, defaults=()):
     if word not in FORMS:
         return ""
     may_lack, marked = OPTIONAL.get(word, {}), MARKED.get(word, [])
-    shown = {key: KEYS_SHOWN.get(key, SHOWN[kind]) for key, kind in FORMS[word].items()}
+    shown = {key: KEYS_SHOWN.get(key, SHOWN.get(kind, key)) for key, kind in FORMS[word].items()}
     shown = {key: f"{key} {it}" if key in marked else it for key, it in shown.items()}
     return " ".join(f"[{it}]" if key in may_lack or key in defaults else it for key, it in shown.items())
 
@@ -184,11 +185,11 @@ def read_line(left, word, defaults):
     marked, may_lack = MARKED.get(word, []), OPTIONAL.get(word, {})
     value = {"do": word}
     for key, kind in FORMS[word].items():
-        if key in marked:
+        if key in marked or kind == "flag":
             left.may_follow(key)
             if left.words[:1] == [key]:
                 left.take(kind)
-                value[key] = left.value(kind)
+                value[key] = kind == "flag" or left.value(kind)
         elif left.words and not (key in defaults and left.words[0] in marked):
             value[key] = left.value(kind, key)
         elif key in defaults:

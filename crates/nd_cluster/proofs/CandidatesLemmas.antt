@@ -26,7 +26,7 @@ use Rattle.nd_protocol.specs.Steps.{record_key, point_at}
 use Rattle.nd_protocol.specs.Enabled.{IsEnabled}
 use Rattle.nd_protocol.specs.declared.refusal.Refusal.TheVariants.{NoProcessor, NoRecord, NoRequest, NothingToSend, QueueEmpty}
 use Rattle.nd_protocol.specs.declared.step.Step.{Step}
-use Rattle.nd_protocol.specs.declared.step.Step.TheVariants.{Feed, Take, Notice, Release, Broadcast, Receive}
+use Rattle.nd_protocol.specs.declared.step.Step.TheVariants.{Feed, Take, Notice, Release, Send, Broadcast, Receive}
 use Rattle.nd_protocol.specs.declared.part.Part.TheVariants.{Points}
 use Rattle.nd_protocol.specs.declared.part.Part.TheVariants.{All as Whole}
 use Rattle.nd_cluster.specs.Candidates.{receive_of, receives_from, receives, takes, notices, broadcast_of, broadcasts, candidates_of, may_run, candidates_if, candidates_on, candidates_among, IsCandidate, performer, IsAmong, AreComplete, receives_after, left_of, AreListed, IsAnswered, Lists}
@@ -124,6 +124,7 @@ module _ {A : Type 0} (s : ClusterState) where
   performer_there (Take p edge t value) e = below _ p (e.free NoProcessor)
   performer_there (Notice p vertex t) e = below _ p (e.free NoProcessor)
   performer_there (Release p vertex times) e = below _ p (e.free NoProcessor)
+  performer_there (Send p vertex batch) e = below _ p (λ h. e.free NoProcessor (inl h))
   performer_there (Broadcast p part) e = below _ p (e.free NoProcessor)
   performer_there (Receive from to) e = below _ to (λ h. e.free NoProcessor (inr h))
 
@@ -146,6 +147,7 @@ module _ {A : Type 0} (s : ClusterState) where
   unfolding candidates_of
   covers_own (Feed p vertex values _) candidate e = absurd candidate
   covers_own (Release p vertex times) candidate e = absurd candidate
+  covers_own (Send p vertex batch) candidate e = absurd candidate
   covers_own (Receive from p) candidate e =
       Contains-append_left (receives s p) (takes s p ++ (notices s p ++ broadcasts s p)) (Receive from p)
       (among_receives from p (below _ from (λ h. e.free NoProcessor (inl h))) (e.free QueueEmpty))

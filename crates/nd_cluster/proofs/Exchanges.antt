@@ -18,7 +18,7 @@ use Rattle.nd_protocol.specs.Enabled.{HasLargeEntry, of_unsent, of_view, Fails, 
 use Rattle.nd_protocol.specs.Refusals.{number_of}
 use Rattle.nd_protocol.specs.declared.part.Part.{Part}
 use Rattle.nd_protocol.specs.declared.step.Step.{Step}
-use Rattle.nd_protocol.specs.declared.step.Step.TheVariants.{Feed, Take, Notice, Release, Broadcast, Receive}
+use Rattle.nd_protocol.specs.declared.step.Step.TheVariants.{Feed, Take, Notice, Release, Send, Broadcast, Receive}
 use Rattle.nd_protocol.specs.declared.refusal.Refusal.{Refusal}
 use Rattle.nd_protocol.specs.declared.refusal.Refusal.TheVariants.{NoProcessor, DeltaFull, NothingToSend, NotAdmissible, QueueEmpty, QueueFull, Memory}
 use Rattle.nd_steps.specs.Refused.{LeavesUpright, ReceiveFails}
@@ -38,7 +38,7 @@ use Rattle.nd_map.specs.Cases.{zero_or_not}
 is_part : (c d : DeltaValue) → IsPartOf c d → IsPart c d
 is_part c d h x = elim (zero_or_not (at c x)) [ inl e ↦ inl e | inr some ↦ inr (sym (h x some)) ]
 
--- ---- a feed, a take, a notice or a release
+-- ---- a feed, a take, a notice, a release or a send
 
 module _ {A : Type 0} (s : ClusterState) where
   none_shared : (x : Step A) → Works x → shared s x ≡ 0
@@ -46,6 +46,7 @@ module _ {A : Type 0} (s : ClusterState) where
   none_shared (Take p edge t value) works = refl
   none_shared (Notice p vertex t) works = refl
   none_shared (Release p vertex times) works = refl
+  none_shared (Send p vertex batch) works = refl
   none_shared (Broadcast p _) works = absurd works
   none_shared (Receive from to) works = absurd works
 
@@ -73,6 +74,7 @@ comes_last law s (Feed p vertex values _) state may = tt
 comes_last law s (Take p edge t value) state may = tt
 comes_last law s (Notice p vertex t) state may = λ keeps. law s p vertex t state keeps may
 comes_last law s (Release p vertex times) state may = tt
+comes_last law s (Send p vertex batch) state may = tt
 comes_last law s (Broadcast p _) state may = tt
 comes_last law s (Receive from to) state may = tt
 

@@ -4,7 +4,7 @@ use Rattle.std.proofs.lemmas.Bool.Decides.{nat_tests}
 use Rattle.std.specs.Prelude.{nat_lt, slice_get}
 use Rattle.std.specs.Option.{option_map_or}
 use Rattle.std.specs.List.{list_any}
-use Rattle.nd_time.specs.Limits.{max_counter, max_depth}
+use Rattle.nd_time.specs.Limits.{max_counter, max_depth, max_locations}
 use Rattle.nd_time.specs.Time.{last_of}
 use Rattle.nd_graph.specs.declared.op.Op.{Op}
 use Rattle.nd_graph.specs.declared.op.Op.TheVariants as op
@@ -83,10 +83,10 @@ target_depth vs (e ∷ es) (suc i) d right has = target_depth vs es i d (or_part
 may_target : (g : Dataflow) (edge d : ℕ) → IsFaultless g → length g.vertices ≤ edge → slice_get (map (λ (v : Vertex). v.depth) g.vertices ++ map (λ (e : Edge). depth_past_vertex g.vertices e.from) g.edges) edge ≡ Some d → MayActAt (action_of (op_at g (target_of g edge))) d
 unfolding fault_of has_depth_mismatch is_too_large
 may_target g edge d sound low has =
-    let (agree, small) = second_none (list_any (has_bad_port g.vertices) g.edges) (has_depth_mismatch g) (is_too_large max_depth g) sound.faultless in
+    let (agree, small) = second_none (list_any (has_bad_port g.vertices) g.edges) (has_depth_mismatch g) (is_too_large max_depth max_locations g) sound.faultless in
     let placed = (or_parts (list_any is_misplaced g.vertices) (list_any (misses_depth g.vertices) g.edges) agree).0 in
     let right = (or_parts (list_any is_misplaced g.vertices) (list_any (misses_depth g.vertices) g.edges) agree).1 in
-    let shallow = (or_parts (list_any (is_too_deep max_depth) g.vertices) (list_any (leads_too_deep max_depth g.vertices) g.edges) (or_parts (nat_lt 64 (location_count g)) (list_any (is_too_deep max_depth) g.vertices || list_any (leads_too_deep max_depth g.vertices) g.edges) small).1).0 in
+    let shallow = (or_parts (list_any (is_too_deep max_depth) g.vertices) (list_any (leads_too_deep max_depth g.vertices) g.edges) (or_parts (nat_lt max_locations (location_count g)) (list_any (is_too_deep max_depth) g.vertices || list_any (leads_too_deep max_depth g.vertices) g.edges) small).1).0 in
     let is : vertex_depth g.vertices (target_of g edge) ≡ d
     = target_depth g.vertices g.edges (edge - length g.vertices) d right (among_edges g.vertices (map (λ (e : Edge). depth_past_vertex g.vertices e.from) g.edges) edge d low has) in
     subst (λ n. MayActAt (action_of (op_at g (target_of g edge))) n) is (may_at g.vertices (target_of g edge) placed shallow)

@@ -4,14 +4,14 @@ use Rattle.std.proofs.lemmas.Cmp.{tied_itself}
 use Rattle.std.proofs.lemmas.Map.Views.{tells_apart}
 use Rattle.std.specs.Ordering.{eq_by_cmp, is_eq}
 use Rattle.std.specs.FinMap as fin
-use Rattle.nd_time.specs.Time.{Time}
 use Rattle.nd_paths.specs.Point.{point_cmp, point_total, point_exact}
 use Rattle.nd_paths.specs.declared.point.Pointstamp.{Pointstamp}
-use Rattle.nd_processor.specs.State.{ProcessorState, Requests}
+use Rattle.nd_processor.specs.State.{Requests}
 use Rattle.nd_protocol.specs.State.{ClusterState, processor}
 use Rattle.nd_protocol.specs.Steps.{point_at}
+use Rattle.nd_protocol.specs.declared.times.Later.{Later}
 use Rattle.nd_protocol.specs.declared.times.Times.{Times}
-use Rattle.nd_steps.specs.Drafts.{ReleasesSo, asks_later}
+use Rattle.nd_steps.specs.Drafts.{ReleasesSo, left_by, asks_later}
 
 -- whether a request is there, from a test
 unasked : (v : Option (Unit {0})) (b : Bool) → IsTrue b ↔ (v ≡ Some tt) → not b ≡ is_none v
@@ -36,24 +36,43 @@ module _ (m : Requests) (x y : Pointstamp) where
   stays : (y ≡ x → ⊥) → is_none (fin.get (fin.remove m x) y) ≡ is_none (fin.get m y)
   stays other = ap is_none (fin.get-remove point_total m x y ∙ ap (λ b. cond b None (fin.get m y)) (apart other))
 
-module _ (s : ClusterState) (p vertex : ℕ) (times : Times) (kept : fin.get (processor s p).requests (point_at vertex times.time) ≡ Some tt) where
-  abbrev left : Requests
-  left = fin.remove (processor s p).requests (point_at vertex times.time)
+-- of the requests that are left once x is removed, unless it is kept
+module _ (m : Requests) (x y : Pointstamp) where
+  abbrev left : Bool → Requests
+  left keep = cond keep m (fin.remove m x)
 
-  -- the capability moves to the time at which it was held
-  pub asks_same : (to : Time) → times.to ≡ Some to → to ≡ times.time → ReleasesSo s p vertex times true
+  same_left : y ≡ x → fin.get m x ≡ Some tt → (keep : Bool) → not keep ≡ is_none (fin.get (left keep) y)
+  same_left e found true = sym (ap is_none (ap (fin.get m) e ∙ found))
+  same_left e found false = sym (gone m x y e)
+
+  others_left : (y ≡ x → ⊥) → (keep : Bool) → is_none (fin.get (left keep) y) ≡ is_none (fin.get m y)
+  others_left other true = refl
+  others_left other false = stays m x y other
+
+module _ (s : ClusterState) (p vertex : ℕ) (times : Times) (kept : fin.get (processor s p).requests (point_at vertex times.time) ≡ Some tt) where
+  abbrev m : Requests
+  m = (processor s p).requests
+
+  abbrev x : Pointstamp
+  x = point_at vertex times.time
+
+  -- what is asked, if the capability moves to `to`
+  asks_is : (to : Later) → times.to ≡ Some to → asks_later (left_by m vertex times) vertex times.to ≡ is_none (fin.get (left m x x to.keep) (point_at vertex to.time))
+  asks_is to is = ap (λ o. asks_later (left_by m vertex (record { time = times.time; to = o })) vertex o) is
+
+  -- the later time is the one at which it was held
+  pub asks_same : (to : Later) → times.to ≡ Some to → to.time ≡ times.time → ReleasesSo s p vertex times (not to.keep)
   asks_same to is same = record {
     asked = kept;
-    anew = sym (ap (asks_later left vertex) is ∙ gone (processor s p).requests (point_at vertex times.time) (point_at vertex to) (ap (point_at vertex) same));
+    anew = same_left m x (point_at vertex to.time) (ap (point_at vertex) same) kept to.keep ∙ sym (asks_is to is);
   }
 
-  -- it moves to another time, and the processor and that time are read
-  pub asks_other : (to : Time) → times.to ≡ Some to → (to ≡ times.time → ⊥) → (q : ProcessorState) → q ≡ processor s p → (u : Time) → u ≡ to
-      → (b : Bool) → IsTrue b ↔ (fin.get q.requests (point_at vertex u) ≡ Some tt) → ReleasesSo s p vertex times (not b)
-  asks_other to is other q q_is u u_is b there = record {
+  -- it is another time
+  pub asks_other : (to : Later) → times.to ≡ Some to → (to.time ≡ times.time → ⊥) → (b : Bool) → IsTrue b ↔ (fin.get m (point_at vertex to.time) ≡ Some tt) → ReleasesSo s p vertex times (not b)
+  asks_other to is other b there = record {
     asked = kept;
     anew =
-        unasked (fin.get q.requests (point_at vertex u)) b there
-        ∙ (λ i. is_none (fin.get (q_is i).requests (point_at vertex (u_is i))))
-        ∙ sym (ap (asks_later left vertex) is ∙ stays (processor s p).requests (point_at vertex times.time) (point_at vertex to) (λ e. other (ap (λ (x : Pointstamp). x.time) e)));
+        unasked (fin.get m (point_at vertex to.time)) b there
+        ∙ sym (others_left m x (point_at vertex to.time) (λ e. other (ap (λ (y : Pointstamp). y.time) e)) to.keep)
+        ∙ sym (asks_is to is);
   }

@@ -1,10 +1,10 @@
--- The initial state of a cluster: its tokens, counted once for each processor, are all that is outstanding.
+-- The initial state of a cluster: its tokens and its requests, counted once for each processor, are all that is outstanding.
 use Rattle.std.proofs.Common.{◌≡◌, ◌<◌, ◌+◌, ◌*◌, ℕ, zero, suc, pos, ◌+ℤ◌, ℤ, Bool, true, false, cond, List, [], ◌∷◌, ◌++◌, map, take, length, get_or, replicate, refl, sym, ap, ◌∙◌, arith}
 use Rattle.std.proofs.Math.Nat.{mul-add}
 use Rattle.std.proofs.lemmas.Int.{ints}
 use Rattle.std.proofs.lemmas.List.{map-append, replicate_more}
 use Rattle.std.proofs.lemmas.List.Folds.{sum_by-replicate}
-use Rattle.std.proofs.lemmas.List.Sums.{sum_by_more}
+use Rattle.std.proofs.lemmas.List.Sums.{sum_by_more, sum_by-cons}
 use Rattle.std.specs.Prelude.{All}
 use Rattle.std.specs.FinMap as fin
 use Rattle.nd_graph.specs.Graph.{Dataflow, ArcAgrees, arcs, depths}
@@ -20,12 +20,12 @@ use Rattle.nd_delta.specs.Delta.{DeltaValue, none, plus, at, set, same, is_point
 use Rattle.nd_view.specs.Kept.{Kept}
 use Rattle.nd_processor.specs.State.{ProcessorState, one_at, token_point, held}
 use Rattle.nd_processor.specs.Start.{start_processor}
-use Rattle.nd_processor.specs.HeldLaws.{no_records, no_requests}
+use Rattle.nd_processor.specs.HeldLaws.{no_records, in_requests-weight}
 use Rattle.nd_protocol.specs.State.{truth}
 use Rattle.nd_protocol.specs.Start.{start}
 use Rattle.nd_protocol.specs.Fitting.{IsOrdered}
 use Rattle.nd_steps.specs.Seen.{seen}
-use Rattle.nd_cluster.specs.Starting.{tokens_weigh, IsProcessorCount, IsStartFault, fault_of}
+use Rattle.nd_cluster.specs.Starting.{tokens_weigh, requests_weigh, IsProcessorCount, IsStartFault, fault_of}
 use Rattle.nd_protocol.specs.TruthLaws.{truth-count}
 
 add_here : (b : Bool) (here : ℤ) (s n : ℕ) → (b ≡ true → here ≡ pos s) → cond b (here +ℤ pos n) (pos s) ≡ pos (s + n * cond b 1 0)
@@ -46,15 +46,43 @@ tokens_turn es i n z d m new p lt is number add h x =
     ∙ add_here (is_point x p) (at m p) (n * tokens_weigh (take i es) x) n (λ t. ap (at m) (sym (tells_apart point_exact x p t)) ∙ h x)
     ∙ ap pos sum
 
--- in the initial state a processor holds only its tokens
-held-start : (g : Dataflow) (x : Pointstamp) → held (start_processor g) x ≡ tokens_weigh (fin.entries (start_processor g).tokens) x
-held-start g x = let r = no_records x in let q = no_requests x in omega arith
+count_here : (b : Bool) (here there : ℤ) (n : ℕ) → (b ≡ true → here ≡ there) → cond b (here +ℤ pos n) there ≡ there +ℤ pos (n * cond b 1 0)
+count_here true here there n e = let one : n ≡ n * 1 = omega arith in (λ i. e refl i +ℤ pos (one i))
+count_here false here there n e = let none : there ≡ there +ℤ pos (n * 0) = omega (arith, ints) in none
 
-pub start_counts : (g : Dataflow) (n : ℕ) (d : DeltaValue) (es : List (ℕ × ℕ)) → es ≡ fin.entries (start_processor g).tokens → ((x : Pointstamp) → at d x ≡ pos (n * tokens_weigh es x)) → d ≡ truth (replicate n (start_processor g))
-start_counts g n d es is h =
+-- a pointstamp is counted n times
+counted : (m : DeltaValue) (p x : Pointstamp) (n : ℕ) → at (set m p (at m p +ℤ pos n)) x ≡ at m x +ℤ pos (n * one_at p x)
+counted m p x n = at-set m p (at m p +ℤ pos n) x ∙ count_here (is_point x p) (at m p) (at m x) n (λ t. ap (at m) (sym (tells_apart point_exact x p t)))
+
+one_less : (a b all : ℤ) (k l m : ℕ) → a ≡ b +ℤ pos k → m ≡ k + l → b +ℤ pos m ≡ all → a +ℤ pos l ≡ all
+one_less a b all k l m more sum so_far = omega (arith, ints, more, sum, so_far)
+
+-- one more request is counted n times
+pub requests_turn : (es rest : List (Pointstamp × Unit {0})) (e : Pointstamp × Unit {0}) (n : ℕ) (z : ℤ) (m new : DeltaValue) → es ≡ e ∷ rest → z ≡ pos n → new ≡ set m e.0 (at m e.0 +ℤ z)
+    → (all : Pointstamp → ℤ) → ((x : Pointstamp) → at m x +ℤ pos (n * requests_weigh es x) ≡ all x) → (x : Pointstamp) → at new x +ℤ pos (n * requests_weigh rest x) ≡ all x
+requests_turn es rest e n z m new step number add all h x =
+    let more : at new x ≡ at m x +ℤ pos (n * one_at e.0 x) = ap (λ c. at c x) (add ∙ ap (λ y. set m e.0 (at m e.0 +ℤ y)) number) ∙ counted m e.0 x n in
+    let sum : n * requests_weigh es x ≡ n * one_at e.0 x + n * requests_weigh rest x
+    = ap (λ k. n * k) (ap (λ ys. requests_weigh ys x) step ∙ sum_by-cons (λ (d : Pointstamp × Unit {0}). one_at d.0 x) e rest) ∙ mul-add n (one_at e.0 x) (requests_weigh rest x) in
+    one_less (at new x) (at m x) (all x) (n * one_at e.0 x) (n * requests_weigh rest x) (n * requests_weigh es x) more sum (h x)
+
+-- no request is left
+pub requests_end : (es : List (Pointstamp × Unit {0})) (n : ℕ) (z all : ℤ) (x : Pointstamp) → es ≡ [] → z +ℤ pos (n * requests_weigh es x) ≡ all → z ≡ all
+requests_end es n z all x none h =
+    let nothing : z ≡ z +ℤ pos (n * 0) = omega (arith, ints) in
+    nothing ∙ ap (λ ys. z +ℤ pos (n * requests_weigh ys x)) (sym none) ∙ h
+
+-- in the initial state a processor holds only its tokens and its requests
+held-start : (g : Dataflow) (x : Pointstamp) → held (start_processor g) x ≡ tokens_weigh (fin.entries (start_processor g).tokens) x + requests_weigh (fin.entries (start_processor g).requests) x
+held-start g x = let r = no_records x in let q = in_requests-weight (start_processor g).requests x in omega arith
+
+pub start_counts : (g : Dataflow) (n : ℕ) (d : DeltaValue) (es : List (ℕ × ℕ)) (rs : List (Pointstamp × Unit {0})) → es ≡ fin.entries (start_processor g).tokens → rs ≡ fin.entries (start_processor g).requests
+    → ((x : Pointstamp) → at d x ≡ pos (n * tokens_weigh es x) +ℤ pos (n * requests_weigh rs x)) → d ≡ truth (replicate n (start_processor g))
+start_counts g n d es rs is are h =
     same _ _ (λ x.
     h x
-    ∙ ap (λ k. pos (n * k)) (ap (λ ys. tokens_weigh ys x) is ∙ sym (held-start g x))
+    ∙ ap pos (sym (mul-add n (tokens_weigh es x) (requests_weigh rs x)))
+    ∙ ap (λ k. pos (n * k)) ((λ i. tokens_weigh (is i) x + requests_weigh (are i) x) ∙ sym (held-start g x))
     ∙ sym (ap pos (sum_by-replicate (λ (q : ProcessorState). held q x) n (start_processor g)))
     ∙ sym (truth-count (replicate n (start_processor g)) x))
 

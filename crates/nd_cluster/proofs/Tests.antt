@@ -8,9 +8,9 @@ use Rattle.nd_protocol.specs.Enabled.{HasLargeCount, HasLargeEntry, Fails, IsEna
 use Rattle.nd_protocol.specs.Ranges.{NumbersFit}
 use Rattle.nd_protocol.specs.Refusals.{number_of}
 use Rattle.nd_protocol.specs.declared.step.Step.{Step}
-use Rattle.nd_protocol.specs.declared.step.Step.TheVariants.{Feed, Take, Notice, Release, Broadcast, Receive}
+use Rattle.nd_protocol.specs.declared.step.Step.TheVariants.{Feed, Take, Notice, Release, Send, Broadcast, Receive}
 use Rattle.nd_protocol.specs.declared.refusal.Refusal.{Refusal}
-use Rattle.nd_protocol.specs.declared.refusal.Refusal.TheVariants.{CountFull, DeltaFull, NothingToSend, NotAdmissible, QueueEmpty, QueueFull, NotNotified, NotLater, Memory}
+use Rattle.nd_protocol.specs.declared.refusal.Refusal.TheVariants.{CountFull, DeltaFull, NothingToSend, NotAdmissible, QueueEmpty, QueueFull, NotNotified, NotLater, NoPort, TooEarly, Memory}
 use Rattle.nd_steps.specs.Limits.{LimitFails}
 use Rattle.nd_cluster.specs.Drafted.{Works, take_of, PassesLast, FailsLast}
 
@@ -20,6 +20,7 @@ module _ {A : Type 0} (s : ClusterState) where
   large_count (Take p edge t value) works h = h
   large_count (Notice p vertex t) works h = h
   large_count (Release p vertex times) works h = h
+  large_count (Send p vertex batch) works h = h
   large_count (Broadcast p _) works h = absurd works
   large_count (Receive from to) works h = absurd works
 
@@ -28,6 +29,7 @@ module _ {A : Type 0} (s : ClusterState) where
   count_fails (Take p edge t value) works h = h
   count_fails (Notice p vertex t) works h = h
   count_fails (Release p vertex times) works h = h
+  count_fails (Send p vertex batch) works h = h
   count_fails (Broadcast p _) works h = absurd works
   count_fails (Receive from to) works h = absurd works
 
@@ -36,6 +38,7 @@ module _ {A : Type 0} (s : ClusterState) where
   large_entry (Take p edge t value) works h = h
   large_entry (Notice p vertex t) works h = h
   large_entry (Release p vertex times) works h = h
+  large_entry (Send p vertex batch) works h = h
   large_entry (Broadcast p _) works h = absurd works
   large_entry (Receive from to) works h = absurd works
 
@@ -44,6 +47,7 @@ module _ {A : Type 0} (s : ClusterState) where
   entry_fails (Take p edge t value) works h = h
   entry_fails (Notice p vertex t) works h = h
   entry_fails (Release p vertex times) works h = h
+  entry_fails (Send p vertex batch) works h = h
   entry_fails (Broadcast p _) works h = absurd works
   entry_fails (Receive from to) works h = absurd works
 
@@ -58,6 +62,8 @@ module _ {A : Type 0} (s : ClusterState) where
       by QueueFull lt h = h
       by NotNotified lt h = h
       by NotLater lt h = h
+      by NoPort lt h = h
+      by TooEarly lt h = h
       by Memory lt h = h
       by r lt h = absurd (omega (arith, lt))
 
@@ -91,6 +97,8 @@ module _ {A : Type 0} (s : ClusterState) where
           by QueueFull h = last.free QueueFull (omega arith) h
           by NotNotified h = last.free NotNotified (omega arith) h
           by NotLater h = last.free NotLater (omega arith) h
+          by NoPort h = last.free NoPort (omega arith) h
+          by TooEarly h = last.free TooEarly (omega arith) h
           by Memory h = last.free Memory (omega arith) h
           by r h = free.free r (omega arith) h
 
@@ -107,6 +115,8 @@ module _ {A : Type 0} (s : ClusterState) where
           by QueueFull lt h = last.least QueueFull (omega arith) lt h
           by NotNotified lt h = last.least NotNotified (omega arith) lt h
           by NotLater lt h = last.least NotLater (omega arith) lt h
+          by NoPort lt h = last.least NoPort (omega arith) lt h
+          by TooEarly lt h = last.least TooEarly (omega arith) lt h
           by Memory lt h = last.least Memory (omega arith) lt h
           by q lt h = free.free q (omega arith) h
 

@@ -11,7 +11,7 @@ use Rattle.nd_processor.specs.declared.key.ValueAt.{ValueAt}
 use Rattle.nd_protocol.specs.State.{ClusterState, processor, queue}
 use Rattle.nd_protocol.specs.Enabled.{IsEnabled, IsRefused}
 use Rattle.nd_protocol.specs.declared.step.Step.{Step}
-use Rattle.nd_protocol.specs.declared.step.Step.TheVariants.{Feed, Take, Notice, Release, Broadcast, Receive}
+use Rattle.nd_protocol.specs.declared.step.Step.TheVariants.{Feed, Take, Notice, Release, Send, Broadcast, Receive}
 use Rattle.nd_protocol.specs.declared.part.Part.TheVariants.{Points}
 use Rattle.nd_protocol.specs.declared.part.Part.TheVariants.{All as Whole}
 use Rattle.nd_protocol.specs.declared.refusal.Refusal.{Refusal}
@@ -79,12 +79,13 @@ candidates s = candidates_among s None
 
 -- ---- they are complete
 
--- a step that a run may choose: feeds and releases are left to the users, and a broadcast sends all
+-- a step that a run may choose: feeds, releases and sends are left to the users, and a broadcast sends all
 abbrev pub IsCandidate : {A : Type 0} → Step A → Type 0
 IsCandidate (Feed p vertex values _) = ⊥
 IsCandidate (Take p edge t value) = Unit {0}
 IsCandidate (Notice p vertex t) = Unit {0}
 IsCandidate (Release p vertex times) = ⊥
+IsCandidate (Send p vertex batch) = ⊥
 IsCandidate (Broadcast p Whole) = Unit {0}
 IsCandidate (Broadcast p (Points _)) = ⊥
 IsCandidate (Receive from to) = Unit {0}
@@ -95,6 +96,7 @@ performer (Feed p vertex values _) = p
 performer (Take p edge t value) = p
 performer (Notice p vertex t) = p
 performer (Release p vertex times) = p
+performer (Send p vertex batch) = p
 performer (Broadcast p part) = p
 performer (Receive from to) = to
 

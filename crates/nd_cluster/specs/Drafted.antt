@@ -1,5 +1,5 @@
--- The changes of a feed, a take, a notice or a release before the limits are tested and the changes are ordered; and the tests
--- after the limits.
+-- The changes of a feed, a take, a notice, a release or a send before the limits are tested and the changes are ordered; and the
+-- tests after the limits.
 use Rattle.std.specs.Prelude.{◌≡◌, ◌<◌, ℕ, List, Option, Some, None}
 use Rattle.nd_paths.specs.declared.point.Pointstamp.{Pointstamp}
 use Rattle.nd_processor.specs.declared.key.ValueAt.{ValueAt}
@@ -9,20 +9,21 @@ use Rattle.nd_protocol.specs.Enabled.{Fails, IsAdmissible, IsFreeBelow}
 use Rattle.nd_protocol.specs.Refusals.{number_of}
 use Rattle.nd_protocol.specs.declared.refusal.Refusal.{Refusal}
 use Rattle.nd_protocol.specs.declared.step.Step.{Step}
-use Rattle.nd_protocol.specs.declared.step.Step.TheVariants.{Feed, Take, Notice, Release, Broadcast, Receive}
+use Rattle.nd_protocol.specs.declared.step.Step.TheVariants.{Feed, Take, Notice, Release, Send, Broadcast, Receive}
 use Rattle.nd_steps.specs.declared.change.Change.{Change}
 use Rattle.nd_steps.specs.Plans.{Reaches}
 use Rattle.nd_steps.specs.Flows.{come_changes}
 use Rattle.nd_cluster.specs.declared.work.Drafted.{Drafted}
 use Rattle.nd_cluster.specs.declared.work.Drafted.TheVariants.{Each, Flow}
 
--- a feed, a take, a notice or a release: the step changes records and capabilities, and others hear of
+-- a feed, a take, a notice, a release or a send: the step changes records and capabilities, and others hear of
 -- it through what is unsent
 abbrev pub Works : {A : Type 0} → Step A → Type 0
 Works (Feed p vertex values _) = Unit {0}
 Works (Take p edge t value) = Unit {0}
 Works (Notice p vertex t) = Unit {0}
 Works (Release p vertex times) = Unit {0}
+Works (Send p vertex batch) = Unit {0}
 Works (Broadcast p _) = ⊥
 Works (Receive from to) = ⊥
 
@@ -49,7 +50,8 @@ IsDraft s x (Flow p gone come) = (x ≡ take_of p gone) × Reaches s (stepped s 
 
 -- ---- what is tested after the limits
 
--- no condition of a refusal that is tested after the limits holds, and a capability that moves goes to a later time
+-- no condition of a refusal that is tested after the limits holds, a capability that moves goes to a later time, and what is sent is
+-- not before the capability
 pub record PassesLast {A : Type 0} (s : ClusterState) (x : Step A) : Type 0 where
   pub free : (r : Refusal) → 14 < number_of r → Fails s x r → ⊥
   pub admissible : IsAdmissible s x

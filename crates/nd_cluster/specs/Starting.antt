@@ -1,5 +1,5 @@
 -- Why a cluster does not start, and the number and the name of each error (this project's own rule).
-use Rattle.std.specs.Prelude.{ℕ, ◌<◌, ◌≤◌, List, codes}
+use Rattle.std.specs.Prelude.{ℕ, ◌<◌, ◌≤◌, List, sum_by, codes}
 use Rattle.nd_time.specs.Code.{Code, coded}
 use Rattle.nd_time.specs.Limits.{max_processors}
 use Rattle.nd_map.specs.Weights.{weight}
@@ -45,6 +45,10 @@ pub record CanStart (g : Dataflow) (n : ℕ) : Type 0 where
 abbrev pub fault_of : PathFault → StartFault
 fault_of (path.LoopNotStrict l) = LoopNotStrict l
 fault_of path.Memory = Memory
+
+-- how many of these requests are at the pointstamp x
+abbrev pub requests_weigh : List (Pointstamp × Unit {0}) → Pointstamp → ℕ
+requests_weigh es x = sum_by (λ e. one_at e.0 x) es
 
 -- how many of these tokens are at the pointstamp x
 abbrev pub tokens_weigh : List (ℕ × ℕ) → Pointstamp → ℕ

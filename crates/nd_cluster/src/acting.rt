@@ -9,10 +9,10 @@ ghost use Rattle.nd_steps.specs.Drafts.{TakesSo, NoticesSo};
 ghost use Rattle.nd_protocol.specs.Enabled.{IsFreeBelow, IsRefused};
 ghost use Rattle.nd_cluster.specs.Drafted.{take_of, notice_of};
 
-use crate::refuse::op_at;
 use crate::{Cluster, Refusal};
 use nd_paths::Pointstamp;
 use nd_processor::ValueAt;
+use nd_steps::op_at;
 use nd_time::Timestamp;
 use nd_vertex::{Effect, VertexFault};
 use std::alloc::Allocator;

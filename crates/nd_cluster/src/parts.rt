@@ -12,7 +12,6 @@ ghost use Rattle.nd_protocol.specs.Ranges.{IsValue};
 ghost use Rattle.nd_protocol.specs.Fitting.{IsAtVertex, IsAtEdge, IsAtLocation, DeltaFits, DeltaIsWithin, ProcessorFits, ProcessorIsWithin, IsState};
 
 use crate::Cluster;
-use crate::refuse::op_at;
 use crate::start::MAX_PROCESSORS;
 use nd_delta::{Delta, LargeDelta};
 use nd_graph::{Graph, Op};
@@ -20,7 +19,7 @@ use nd_mesh::Mesh;
 use nd_paths::{Paths, Pointstamp};
 use nd_processor::{Processor, SinkKey, ValueAt, token_point};
 use nd_protocol::times_are_small;
-use nd_steps::Parts;
+use nd_steps::{Parts, op_at};
 use nd_vertex::{ItemKey, VertexState};
 use nd_view::View;
 use std::alloc::Allocator;

@@ -64,6 +64,7 @@ impl<A: Allocator + Copy> Cluster<A> {
             Step::Receive { from, to } => self.receive_changes(*from, *to),
             Step::Feed { .. } | Step::Take { .. } => self.work_changes(step),
             Step::Notice { .. } | Step::Release { .. } => self.work_changes(step),
+            Step::Send { .. } => self.work_changes(step),
         }
     }
 

@@ -1,36 +1,25 @@
 //! Why steps are refused: tests in the order of the refusals' numbers (this project's own rule).
 ghost use Rattle.std.specs.Prelude.{◌≡◌, ◌↔◌, ◌<◌, IfOk, IfErr, OnOk, IsTrue, Some, length};
 ghost use Rattle.std.specs.FinMap as fin;
-ghost use Rattle.nd_graph.specs.Checked.{IsFaultless};
-ghost use Rattle.nd_graph.specs.Graph.{op_at as operator_at};
 ghost use Rattle.nd_graph.specs.declared.op.Op.TheVariants as operator;
 ghost use Rattle.nd_protocol.specs.State.{processor};
 ghost use Rattle.nd_protocol.specs.Steps.{target_of, point_at, epoch_of};
 ghost use Rattle.nd_protocol.specs.Times.{GoesLater};
-ghost use Rattle.nd_protocol.specs.Enabled.{GoesBack, IsFreeBelow, IsRefused};
-ghost use Rattle.nd_protocol.specs.declared.step.Step.TheVariants.{Feed as Feeding, Release as Releasing};
+ghost use Rattle.nd_protocol.specs.Enabled.{GoesBack, GoesNowhere, IsFreeBelow, IsRefused};
+ghost use Rattle.nd_protocol.specs.declared.step.Step.TheVariants.{Feed as Feeding, Release as Releasing, Send as Posting};
 ghost use Rattle.nd_cluster.specs.Drafted.{Works, take_of, notice_of, IsWithinRules, IsLastRefusal};
 
 use crate::{Cluster, Next, Refusal, Step};
-use nd_graph::{Graph, Op};
+use nd_graph::Op;
 use nd_paths::Pointstamp;
 use nd_processor::ValueAt;
-use nd_protocol::Times;
+use nd_protocol::{Batch, Times};
+use nd_steps::op_at;
+use nd_time::Timestamp;
 use std::alloc::Allocator;
 
-/// The most values of one feed.
+/// The most values of one feed or send.
 pub(crate) const MAX_VALUES: usize = 1024;
-
-// Returns the operator at a vertex's location; at an edge's location returns that of a sink.
-pub(crate) fn op_at<B: Allocator>(graph: &Graph<B>, location: usize) -> Op
-    ensures op { result ≡ operator_at graph.now location }
-    ensures sound { IsFaultless graph.now }
-{
-    match graph.vertices().get(location) {
-        Some(vertex) => vertex.op,
-        None => Op::Sink,
-    }
-}
 
 fn is_input(op: Op) -> bool
     ensures { IsTrue result ↔ (op ≡ operator.Input) }
@@ -38,18 +27,12 @@ fn is_input(op: Op) -> bool
     matches!(op, Op::Input)
 }
 
-fn is_hold(op: Op) -> bool
-    ensures { IsTrue result ↔ (op ≡ operator.Hold) }
-{
-    matches!(op, Op::Hold)
-}
-
 // Returns whether the time to which a capability moves, if there is one, is strictly later.
 fn goes_later(times: &Times) -> bool
     ensures { IsTrue result ↔ GoesLater times.now.time times.now.to }
 {
     match &times.to {
-        Some(to) => times.time.at_or_before(to) && times.time != *to,
+        Some(to) => times.time.at_or_before(&to.time) && times.time != to.time,
         None => true,
     }
 }
@@ -132,7 +115,21 @@ impl<A: Allocator + Copy> Cluster<A> {
         Ok(())
     }
 
-    // Returns an error unless a hold vertex of a processor holds the capability: why its release is refused.
+    // Returns whether a processor has a request of a vertex at a time.
+    pub(crate) fn is_asked(&self, p: u32, vertex: usize, time: &Timestamp) -> bool
+        requires { p < length self.now.processors }
+        ensures { IsTrue result ↔ (fin.get (processor self.now p).requests
+            (point_at vertex time.now) ≡ Some tt) }
+    {
+        let point = Pointstamp {
+            location: vertex,
+            time: time.copy(),
+        };
+        self.processor(p as usize).has_request(&point)
+    }
+
+    // Returns an error unless a vertex of a processor holds the capability, and supports a later one if it stays beside it: why
+    // its release is refused.
     pub(crate) fn release_kept(&self, p: u32, vertex: usize, times: &Times) -> Result<(), Refusal>
         ensures kept { OnOk result (fin.get (processor self.now p).requests
             (point_at vertex times.now.time) ≡ Some tt) }
@@ -147,14 +144,48 @@ impl<A: Allocator + Copy> Cluster<A> {
         if vertex >= graph.vertices().len() {
             return Err(Refusal::NoVertex);
         }
-        if !is_hold(op_at(graph, vertex)) {
+        let op = op_at(graph, vertex);
+        if !op.holds() || times.keeps() && !op.supports() {
             return Err(Refusal::NoRequest);
         }
-        let point = Pointstamp {
-            location: vertex,
-            time: times.time.copy(),
-        };
-        if !self.processor(p as usize).has_request(&point) {
+        if !self.is_asked(p, vertex, &times.time) {
+            return Err(Refusal::NoRequest);
+        }
+        Ok(())
+    }
+
+    // Returns whether a processor is named that is not there.
+    fn goes_nowhere(&self, dest: Option<u32>) -> bool
+        ensures { IsTrue result ↔ GoesNowhere self.now dest }
+    {
+        match dest {
+            Some(dest) => dest as usize >= self.n(),
+            None => false,
+        }
+    }
+
+    // Returns an error unless a vertex of a processor holds a capability from which the batch can be sent: why the send is refused,
+    // apart from the limits and what is tested after them.
+    pub(crate) fn post_held(&self, p: u32, vertex: usize, batch: &Batch<A>) -> Result<(), Refusal>
+        ensures there { OnOk result (p < length self.now.processors) }
+        ensures free { OnOk result (IsWithinRules A self.now (Posting p vertex batch.now)) }
+        ensures refused { IfErr result
+            (IsRefused {A = A} self.now (Posting p vertex batch.now)) }
+    {
+        if p as usize >= self.n() || self.goes_nowhere(batch.dest) {
+            return Err(Refusal::NoProcessor);
+        }
+        let graph = self.graph();
+        if vertex >= graph.vertices().len() {
+            return Err(Refusal::NoVertex);
+        }
+        if batch.values.as_slice().len() > MAX_VALUES {
+            return Err(Refusal::TooManyValues);
+        }
+        if !op_at(graph, vertex).supports() {
+            return Err(Refusal::NoRequest);
+        }
+        if !self.is_asked(p, vertex, &batch.time) {
             return Err(Refusal::NoRequest);
         }
         Ok(())
@@ -171,7 +202,21 @@ impl<A: Allocator + Copy> Cluster<A> {
         }
     }
 
-    // Returns why a feed, a take, a notice or a release that is within the limits is refused, or none if it is not.
+    // Returns why a send that is within the limits is refused, or none if it is not.
+    fn post_last(&self, p: u32, vertex: usize, batch: &Batch<A>) -> Option<Refusal>
+        ensures { IsWithinRules A self.now (Posting p vertex batch.now)
+            → IsLastRefusal {A = A} self.now (Posting p vertex batch.now) result }
+    {
+        if batch.port >= op_at(self.graph(), vertex).ports() {
+            return Some(Refusal::NoPort);
+        }
+        if !batch.time.at_or_before(batch.records_time()) {
+            return Some(Refusal::TooEarly);
+        }
+        None
+    }
+
+    // Returns why a feed, a take, a notice, a release or a send that is within the limits is refused, or none if it is not.
     pub(crate) fn last_refusal(&self, step: &Step<A>) -> Option<Refusal>
         requires works { Works step.now }
         requires free { IsWithinRules A self.now step.now }
@@ -191,7 +236,7 @@ impl<A: Allocator + Copy> Cluster<A> {
             }
             Step::Take { .. } => None,
             Step::Notice { vertex, .. } => {
-                if is_hold(op_at(self.graph(), *vertex)) {
+                if op_at(self.graph(), *vertex).holds() {
                     return Some(Refusal::NotNotified);
                 }
                 None
@@ -202,6 +247,7 @@ impl<A: Allocator + Copy> Cluster<A> {
                 }
                 None
             }
+            Step::Send { p, vertex, batch } => self.post_last(*p, *vertex, batch.get()),
             Step::Broadcast { .. } | Step::Receive { .. } => unreachable!(),
         }
     }

@@ -1,5 +1,5 @@
 //! The initial state of a cluster.
-ghost use Rattle.std.specs.Prelude.{◌≡◌, ◌*◌, pos, All, IfOk, IfErr, OnOk, map, replicate};
+ghost use Rattle.std.specs.Prelude.{◌≡◌, ◌*◌, ◌+ℤ◌, pos, All, IfOk, IfErr, OnOk, map, replicate};
 ghost use Rattle.nd_paths.specs.declared.point.Pointstamp.{Pointstamp as Point};
 ghost use Rattle.nd_delta.specs.Delta.{at};
 ghost use Rattle.nd_view.specs.Kept.{IsFor};
@@ -7,13 +7,14 @@ ghost use Rattle.nd_processor.specs.Start.{start_processor};
 ghost use Rattle.nd_protocol.specs.State.{truth};
 ghost use Rattle.nd_protocol.specs.Start.{start as started};
 ghost use Rattle.nd_protocol.specs.Invariant.{KeepsProtocol};
-ghost use Rattle.nd_cluster.specs.Starting.{start_code, fault_of, tokens_weigh, IsStartFault, CanStart};
+ghost use Rattle.nd_cluster.specs.Starting.{start_code, fault_of, tokens_weigh, requests_weigh, IsStartFault, CanStart};
 
 use crate::Cluster;
 use nd_delta::Delta;
 use nd_graph::{Graph, GraphFault};
+use nd_map::Iter;
 use nd_mesh::Mesh;
-use nd_paths::{PathFault, Paths};
+use nd_paths::{PathFault, Paths, Pointstamp};
 use nd_processor::{Processor, token_point};
 use nd_protocol::starts_keep_protocol;
 use nd_steps::Parts;
@@ -91,6 +92,23 @@ fn tokens_counted<A: Allocator>(
     Ok(counted)
 }
 
+// Counts each request `n` times more.
+fn count_requests<A: Allocator>(
+    counted: &mut Delta<A>,
+    requests: Iter<'_, Pointstamp, ()>,
+    n: u32,
+) -> Result<(), AllocError>
+    ensures { OnOk result ((x : Point)
+        → at counted.new x ≡ at counted.old x +ℤ pos (n * requests_weigh requests.entry x)) }
+{
+    for (point, _) in requests {
+        let Ok(()) = counted.add(point, i64::from(n)) else {
+            return Err(AllocError);
+        };
+    }
+    Ok(())
+}
+
 // Returns `n` views that count what a change counts.
 fn start_views<A: Allocator + Copy>(
     alloc: A,
@@ -121,11 +139,14 @@ fn start_truth<A: Allocator + Copy>(
     ensures { IfOk result (λ d. d ≡ truth (replicate n (start_processor graph.now))) }
 {
     let processor = Processor::start(alloc, graph)?;
-    tokens_counted(alloc, processor.tokens(), n)
+    let mut counted = tokens_counted(alloc, processor.tokens(), n)?;
+    count_requests(&mut counted, processor.requests(), n)?;
+    Ok(counted)
 }
 
 impl<A: Allocator + Copy> Cluster<A> {
-    /// Starts a cluster of `n` processors: each token is at epoch 0, and each view counts what is outstanding.
+    /// Starts a cluster of `n` processors: each token is at epoch 0, each opaque vertex that starts with a capability holds
+    /// it at the first time, and each view counts what is outstanding.
     ///
     /// Drops the graph if the cluster does not start.
     pub fn start(alloc: A, graph: Graph<A>, n: u32) -> Result<Cluster<A>, StartFault>

@@ -1,4 +1,4 @@
-//! The changes of a feed, a take, a notice or a release, or why it is refused.
+//! The changes of a feed, a take, a notice, a release or a send, or why it is refused.
 ghost use Rattle.std.specs.Prelude.{◌≡◌, ◌≢◌, ◌<◌, Err, IfOk, IfErr, OnOk, Some, length};
 ghost use Rattle.std.specs.FinMap as fin;
 ghost use Rattle.nd_protocol.specs.State.{processor};
@@ -8,20 +8,20 @@ ghost use Rattle.nd_protocol.specs.Enabled.{IsRefused, MayWantMemory};
 ghost use Rattle.nd_steps.specs.Drafts.{ReleasesSo};
 ghost use Rattle.nd_cluster.specs.Records.{Plans};
 ghost use Rattle.nd_cluster.specs.Drafted.{Works, take_of, notice_of, LeadOn, IsWithinRules, IsDraft};
-ghost use Rattle.nd_protocol.specs.declared.step.Step.TheVariants.{Feed as Feeding, Release as Releasing};
+ghost use Rattle.nd_protocol.specs.declared.step.Step.TheVariants.{Feed as Feeding, Release as Releasing, Send as Posting};
 ghost use Rattle.nd_protocol.specs.declared.refusal.Refusal.TheVariants.{Memory};
 
 use crate::{Change, Changes, Cluster, Next, Refusal, Step};
 use nd_paths::Pointstamp;
 use nd_processor::ValueAt;
-use nd_protocol::Times;
+use nd_protocol::{Batch, Times};
 use nd_steps::{
     Come, Fed, Performer, Taken, feed_changes, notice_changes, ordered_flow, planned_changes,
-    record_at, release_changes, take_changes, take_flow,
+    post_changes, record_at, release_changes, take_changes, take_flow,
 };
 use std::alloc::Allocator;
 
-// The changes of a feed, a take, a notice or a release, before the limits are tested and the changes are ordered.
+// The changes of a feed, a take, a notice, a release or a send, before the limits are tested and the changes are ordered.
 #[derive(Drop)]
 pub(crate) enum Drafted<A: Allocator + Copy> {
     Each(Vec<Change, A>),
@@ -133,8 +133,8 @@ impl<A: Allocator + Copy> Cluster<A> {
         Ok(all)
     }
 
-    // Returns whether a release makes a request: whether it moves to a time at which there is none after the released one is
-    // removed.
+    // Returns whether a release makes a request: whether there is none at the later time after the released one is removed or
+    // kept.
     fn release_asks(&self, p: u32, vertex: usize, times: &Times) -> bool
         requires here { p < length self.now.processors }
         requires kept { fin.get (processor self.now p).requests
@@ -144,14 +144,10 @@ impl<A: Allocator + Copy> Cluster<A> {
         let Some(to) = &times.to else {
             return false;
         };
-        if *to == times.time {
-            return true;
+        if to.time == times.time {
+            return !to.keep;
         }
-        let point = Pointstamp {
-            location: vertex,
-            time: to.copy(),
-        };
-        !self.processor(p as usize).has_request(&point)
+        !self.is_asked(p, vertex, &to.time)
     }
 
     // Returns what a release changes, or why the release is refused, apart from the limits.
@@ -180,7 +176,33 @@ impl<A: Allocator + Copy> Cluster<A> {
         Ok(all)
     }
 
-    // Returns what a feed, a take, a notice or a release changes, or why the step is refused, apart from the limits.
+    // Returns what a send changes, or why the send is refused, apart from the limits and what is tested after them.
+    fn post_parts(&self, p: u32, vertex: usize, batch: &Batch<A>) -> Result<Vec<Change, A>, Refusal>
+        ensures reaches { IfOk result (λ v.
+            LeadOn A self.now (Posting p vertex batch.now) v.items) }
+        ensures free { OnOk result (IsWithinRules A self.now (Posting p vertex batch.now)) }
+        ensures refused { IfErr result (λ r. r ≢ Memory
+            → IsRefused {A = A} self.now (Posting p vertex batch.now) r) }
+        ensures memory { result ≡ Err Memory
+            → IsWithinRules A self.now (Posting p vertex batch.now) }
+    {
+        self.post_held(p, vertex, batch)?;
+        let graph = self.graph();
+        let n = self.processor_count();
+        let by = Performer {
+            graph,
+            n,
+            p,
+            vertex,
+        };
+        let Ok(all) = post_changes(self.alloc, &by, batch) else {
+            return Err(Refusal::Memory);
+        };
+        Ok(all)
+    }
+
+    // Returns what a feed, a take, a notice, a release or a send changes, or why the step is refused, apart from the limits and what
+    // is tested after them.
     fn drafted(&self, step: &Step<A>) -> Result<Drafted<A>, Refusal>
         requires { Works step.now }
         ensures drafted { IfOk result (IsDraft self.now step.now) }
@@ -219,12 +241,16 @@ impl<A: Allocator + Copy> Cluster<A> {
                 let all = self.release_parts(*p, *vertex, times.get())?;
                 Ok(Drafted::Each(all))
             }
+            Step::Send { p, vertex, batch } => {
+                let all = self.post_parts(*p, *vertex, batch.get())?;
+                Ok(Drafted::Each(all))
+            }
             Step::Broadcast { .. } | Step::Receive { .. } => unreachable!(),
         }
     }
 
-    // Returns the changes of a feed, a take, a notice or a release, in the order in which they are applied; or why the step
-    // is refused.
+    // Returns the changes of a feed, a take, a notice, a release or a send, in the order in which they are applied; or why the
+    // step is refused.
     pub(crate) fn work_changes(&self, step: &Step<A>) -> Result<Changes<A>, Refusal>
         requires { Works step.now }
         ensures ok { IfOk result (Plans self.now step.now) }

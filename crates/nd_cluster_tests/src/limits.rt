@@ -5,7 +5,7 @@ ghost use Rattle.nd_view.specs.Kept.{IsFor};
 
 use crate::refused::Heap;
 use nd_cluster::{Cluster, Next};
-use nd_examples::{HELD, LINE, LOOP, Told, graph_of, is_state, point, step_of};
+use nd_examples::{HELD, LINE, LOOP, Sent, TRACED, Told, graph_of, is_state, point, step_of};
 use nd_graph::Graph;
 use nd_mesh::Mesh;
 use nd_paths::Paths;
@@ -41,11 +41,11 @@ static FEEDS: [Feed; 11] = [
     (5, 0, ("a", 0, 0), &[7], Next::To(6), 0),
 ];
 
-/// The epochs of requests of h, what is unsent there at two epochs, a step at h, and the number of its refusal.
-type AtHold = (&'static [u32], [(u32, i64); 2], Told, u64);
+/// The epochs of requests of a vertex, what is unsent there at two epochs, a step there, and the number of its refusal.
+type AtVertex = (&'static [u32], [(u32, i64); 2], Told, u64);
 
 /// The same of a time that is not later. Nothing is added at the same time, or at a time with a request.
-static AT_HOLD: [AtHold; 10] = [
+static AT_HOLD: [AtVertex; 11] = [
     (&[3], [(3, -MOST), (9, 0)], DROPPED, 14),
     (&[3], [(3, -MOST), (9, 0)], MOVED_BACK, 14),
     (&[3], [(2, MOST), (9, 0)], MOVED_BACK, 14),
@@ -56,6 +56,44 @@ static AT_HOLD: [AtHold; 10] = [
     (&[3], [(3, 1 - MOST), (4, MOST - 1)], MOVED, 0),
     (&[3], [(3, -MOST), (9, 0)], NOTICED, 14),
     (&[3], [(3, 1 - MOST), (9, 0)], NOTICED, 53),
+    (&[3], [(4, MOST), (9, 0)], Told::Keep(0, "h", &[3], &[4]), 9),
+];
+
+/// The same at an opaque vertex, of capabilities that are kept. Nothing is taken away.
+static AT_OPAQUE: [AtVertex; 5] = [
+    (&[3], [(4, MOST), (9, 0)], KEPT, 14),
+    (&[3], [(3, -MOST), (9, 0)], KEPT, 0),
+    (&[3, 4], [(4, MOST), (9, 0)], KEPT, 0),
+    (
+        &[3],
+        [(2, MOST), (9, 0)],
+        Told::Keep(0, "x", &[3], &[2]),
+        14,
+    ),
+    (
+        &[3],
+        [(3, MOST), (9, 0)],
+        Told::Keep(0, "x", &[3], &[3]),
+        54,
+    ),
+];
+
+const KEPT: Told = Told::Keep(0, "x", &[3], &[4]);
+
+/// An epoch, how many records of 5 are on xy and what is unsent there at that epoch, the time and the port of the 5 that x
+/// sends, which holds a capability at epoch 3, and the number of the refusal.
+type Sending = (u32, u64, i64, Option<&'static [u32]>, u32, u64);
+
+/// That there is no such port, and that the time is too early, come after all other refusals.
+static SENDS: [Sending; 8] = [
+    (3, FULL, MOST, None, 0, 13),
+    (3, FULL - 1, 0, None, 0, 0),
+    (3, 0, MOST, None, 0, 14),
+    (2, FULL, 0, Some(&[2]), 0, 13),
+    (2, 0, MOST, Some(&[2]), 0, 14),
+    (2, 0, 0, Some(&[2]), 0, 56),
+    (2, FULL, MOST, Some(&[2]), 2, 55),
+    (4, FULL, MOST, Some(&[5]), 0, 0),
 ];
 
 const DROPPED: Told = Told::Release(0, "h", &[3], None);
@@ -106,19 +144,33 @@ fn before_feed<A: Allocator + Copy>(
     Some(processor)
 }
 
-/// Returns a processor as a row has it before its step at h.
+/// Returns a processor as a row has it before its step at a vertex.
 fn before_step<A: Allocator + Copy>(
     alloc: A,
     graph: &Graph<A>,
-    row: &AtHold,
+    name: &'static str,
+    row: &AtVertex,
 ) -> Option<Processor<A>> {
     let mut processor = Processor::start(alloc, graph).ok()?;
     for epoch in row.0 {
-        processor.add_request(&point(graph, "h", &[*epoch])?).ok()?;
+        processor.add_request(&point(graph, name, &[*epoch])?).ok()?;
     }
     for (epoch, n) in row.1 {
-        add_unsent(&mut processor, graph, &("h", epoch, n))?;
+        add_unsent(&mut processor, graph, &(name, epoch, n))?;
     }
+    Some(processor)
+}
+
+/// Returns a processor as a row has it before its send.
+fn before_send<A: Allocator + Copy>(
+    alloc: A,
+    graph: &Graph<A>,
+    row: &Sending,
+) -> Option<Processor<A>> {
+    let mut processor = Processor::start(alloc, graph).ok()?;
+    processor.add_request(&point(graph, "x", &[3])?).ok()?;
+    add_records(&mut processor, graph, "xy", &[row.0], row.1)?;
+    add_unsent(&mut processor, graph, &("xy", row.0, row.2))?;
     Some(processor)
 }
 
@@ -214,11 +266,32 @@ fn of_feed<A: Allocator + Copy>(
     Some((number, is_state(json, &cluster, closed)))
 }
 
-/// Returns the number of the refusal of a step at h.
-fn of_step<A: Allocator + Copy>(heap: &Heap, json: Global, alloc: A, row: &AtHold) -> Option<u64> {
-    let graph = graph_of(json, alloc, HELD)?;
-    let mut cluster = cluster_of(heap, alloc, &graph, before_step(alloc, &graph, row)?)?;
+/// Returns the number of the refusal of a step at a vertex of a graph.
+fn of_step<A: Allocator + Copy>(
+    heap: &Heap,
+    json: Global,
+    alloc: A,
+    at: (&'static str, &'static str),
+    row: &AtVertex,
+) -> Option<u64> {
+    let (text, name) = at;
+    let graph = graph_of(json, alloc, text)?;
+    let mut cluster = cluster_of(heap, alloc, &graph, before_step(alloc, &graph, name, row)?)?;
     number_of(alloc, &mut cluster, &row.2)
+}
+
+/// Returns the number of the refusal of a send.
+fn of_send<A: Allocator + Copy>(heap: &Heap, json: Global, alloc: A, row: &Sending) -> Option<u64> {
+    let graph = graph_of(json, alloc, TRACED)?;
+    let mut cluster = cluster_of(heap, alloc, &graph, before_send(alloc, &graph, row)?)?;
+    let sent = Sent {
+        time: &[3],
+        at: row.3,
+        port: row.4,
+        values: &[5],
+        dest: None,
+    };
+    number_of(alloc, &mut cluster, &Told::Send(0, "x", sent))
 }
 
 /// Returns the number of the refusal of a record that goes around once more at the last counter.
@@ -230,7 +303,7 @@ fn of_round<A: Allocator + Copy>(heap: &Heap, json: Global, alloc: A) -> Option<
     number_of(alloc, &mut cluster, &Told::Take(0, "sf", &[0, u32::MAX], 5))
 }
 
-/// Checks the worked example *number-limits*, and the limits of feeds to an epoch, releases and notices.
+/// Checks the worked example *number-limits*, and the limits of feeds to an epoch, releases, notices and sends.
 #[test]
 fn number_limits(rt: HostRuntime) {
     let heap = Refusing::new(rt.alloc());
@@ -240,8 +313,16 @@ fn number_limits(rt: HostRuntime) {
         assert!(rt; found == Some((row.5, i == 0)), "in row {i}");
     }
     for (i, row) in AT_HOLD.iter().enumerate() {
-        let number = of_step(&heap, rt.alloc(), &heap, row);
+        let number = of_step(&heap, rt.alloc(), &heap, (HELD, "h"), row);
         assert!(rt; number == Some(row.3), "in row {i} of steps at h");
+    }
+    for (i, row) in AT_OPAQUE.iter().enumerate() {
+        let number = of_step(&heap, rt.alloc(), &heap, (TRACED, "x"), row);
+        assert!(rt; number == Some(row.3), "in row {i} of steps at x");
+    }
+    for (i, row) in SENDS.iter().enumerate() {
+        let number = of_send(&heap, rt.alloc(), &heap, row);
+        assert!(rt; number == Some(row.5), "in row {i} of sends");
     }
     assert!(rt; heap.live() == 0);
 }

@@ -5,14 +5,18 @@ use crate::copies::go;
 use crate::refused::Heap;
 use nd_cluster::{Cluster, Next, Step};
 use nd_examples::{
-    HELD, HELD_MOVED, LINE, LOOP, SUM_NOTIFIED, Script, Told, point, processors_of, start, step_of,
-    values_of,
+    HELD, HELD_MOVED, LINE, LOOP, SUM_NOTIFIED, Script, Sent, TRACED, Told, point, processors_of,
+    start, step_of, values_of,
 };
 use nd_testing::{Refusing, in_turn};
 use std::alloc::{Allocator, Global};
 
+/// The graph of an opaque vertex that starts with a capability, and a sink.
+const SOURCE: &str =
+    r#"{"vertices":[{"name":"x","op":"opaque","depth":0,"ports":1,"starts":true},{"name":"z","op":"sink","depth":0}],"edges":[{"name":"xz","from":"x","port":0,"to":"z","route":"exchange"}]}"#;
+
 /// Steps of each kind, with lists that take memory, and states with candidates of each kind.
-static RUNS: [Script; 7] = [
+static RUNS: [Script; 9] = [
     (
         LINE,
         2,
@@ -55,6 +59,48 @@ static RUNS: [Script; 7] = [
             Told::All(0),
             Told::Receive(0, 0),
             Told::Release(0, "h", &[0], None),
+        ],
+    ),
+    (
+        TRACED,
+        1,
+        &[
+            Told::Feed(0, "a", &[7], Next::Close),
+            Told::Take(0, "ax", &[0], 7),
+            Told::Send(
+                0,
+                "x",
+                Sent {
+                    time: &[0],
+                    at: Some(&[1]),
+                    port: 0,
+                    values: &[1, 2, 3, 4],
+                    dest: Some(0),
+                },
+            ),
+            Told::Points(0, &[("a", &[0]), ("x", &[0])]),
+            Told::Keep(0, "x", &[0], &[3]),
+        ],
+    ),
+    (
+        SOURCE,
+        2,
+        &[
+            Told::Send(
+                0,
+                "x",
+                Sent {
+                    time: &[0],
+                    at: None,
+                    port: 0,
+                    values: &[5],
+                    dest: Some(1),
+                },
+            ),
+            Told::Take(1, "xz", &[0], 5),
+            Told::Release(0, "x", &[0], None),
+            Told::All(0),
+            Told::Receive(0, 1),
         ],
     ),
 ];

@@ -7,21 +7,25 @@ use nd_time::Timestamp;
 use serde_json::Value;
 use std::alloc::{Allocator, Global};
 
-/// The JSON text of a graph: its vertices, each with its operator, its depth and its number, and its
+/// The JSON text of a graph: its vertices, each with its operator, its depth and its number or its ports, and its
 /// edges, each from a port of a vertex to a vertex.
 macro_rules! graph_text {
     (
-        $vertex:ident $op:ident $depth:literal $(k $k:literal)?
-        $(, $next:ident $next_op:ident $next_depth:literal $(k $next_k:literal)?)*;
+        $vertex:ident $op:ident $depth:literal $(k $k:literal)? $(ports $ports:literal)?
+        $(
+            , $next:ident $next_op:ident $next_depth:literal $(k $next_k:literal)?
+            $(ports $next_ports:literal)?
+        )*;
         $edge:ident: $from:ident $port:literal -> $to:ident $route:ident
         $(, $more:ident: $more_from:ident $more_port:literal -> $more_to:ident $more_route:ident)*
     ) => {
         concat!(
             "{\"vertices\":[{\"name\":\"", stringify!($vertex), "\",\"op\":\"", stringify!($op),
-            "\",\"depth\":", $depth, $(",\"k\":", $k,)?
+            "\",\"depth\":", $depth, $(",\"k\":", $k,)? $(",\"ports\":", $ports,)?
             $(
                 "},{\"name\":\"", stringify!($next), "\",\"op\":\"", stringify!($next_op),
                 "\",\"depth\":", $next_depth, $(",\"k\":", $next_k,)?
+                $(",\"ports\":", $next_ports,)?
             )*
             "}],\"edges\":[{\"name\":\"", stringify!($edge), "\",\"from\":\"", stringify!($from),
             "\",\"port\":", $port, ",\"to\":\"", stringify!($to), "\",\"route\":\"", stringify!($route),
@@ -90,6 +94,11 @@ pub const FILTER: &str = graph_text!(
 /// A vertex that holds a capability at each time at which it got a record.
 pub const HELD: &str = graph_text!(
     a input 0, h hold 0, z sink 0; ah: a 0 -> h local, hz: h 0 -> z local
+);
+
+pub const TRACED: &str = graph_text!(
+    a input 0, x opaque 0 ports 2, y sink 0, z sink 0;
+    ax: a 0 -> x local, xy: x 0 -> y local, xz: x 1 -> z local
 );
 
 /// Returns the graph of a JSON text.

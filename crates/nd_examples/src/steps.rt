@@ -3,7 +3,7 @@
 use crate::graphs::{HELD, SUM, graph_of, point, time};
 use nd_cluster::{Cluster, Next, Part, Points, Step, Values};
 use nd_graph::Graph;
-use nd_protocol::{BoxedTimes, Processors, Times};
+use nd_protocol::{Batch, BoxedBatch, BoxedTimes, Later, Processors, Times};
 use serde::{Described, Serialize, Serializer};
 use std::alloc::{Allocator, Global};
 
@@ -18,12 +18,27 @@ pub enum Told {
     Notice(u32, &'static str, &'static [u32]),
     /// The time of the capability that is dropped, and the later time to which it moves, if it does.
     Release(u32, &'static str, &'static [u32], Option<&'static [u32]>),
+    /// The time of the capability that is kept, and the later time of the one beside it.
+    Keep(u32, &'static str, &'static [u32], &'static [u32]),
+    /// What is sent.
+    Send(u32, &'static str, Sent),
     /// The broadcast of all that is unsent.
     All(u32),
     /// The points whose entries are broadcast.
     Points(u32, &'static [Named]),
     /// The sender and the receiver of a change.
     Receive(u32, u32),
+}
+
+/// What is sent: the time of the capability, that of the records if it is another, the port, the values, and the
+/// processor that is named, if one is.
+#[derive(Drop)]
+pub struct Sent {
+    pub time: &'static [u32],
+    pub at: Option<&'static [u32]>,
+    pub port: u32,
+    pub values: &'static [i64],
+    pub dest: Option<u32>,
 }
 
 /// A point: the name of its location, and its time.
@@ -89,15 +104,33 @@ pub fn processors_of<A: Allocator>(alloc: A, list: &[u32]) -> Option<Processors<
     Some(processors)
 }
 
-/// Returns the times of a capability that is dropped or moves.
-pub fn times_of(list: &[u32], to: &Option<&'static [u32]>) -> Option<Times> {
+/// Returns the times of a capability that is dropped, moves, or is kept along with a later one.
+pub fn times_of(list: &[u32], to: &Option<&'static [u32]>, keep: bool) -> Option<Times> {
     let to = match to {
-        Some(to) => Some(time(to)?),
+        Some(to) => Some(Later {
+            time: time(to)?,
+            keep,
+        }),
         None => None,
     };
     Some(Times {
         time: time(list)?,
         to,
+    })
+}
+
+/// Returns the batch of this description.
+fn batch_of<A: Allocator + Copy>(alloc: A, sent: &Sent) -> Option<Batch<A>> {
+    let at = match &sent.at {
+        Some(at) => Some(time(at)?),
+        None => None,
+    };
+    Some(Batch {
+        time: time(sent.time)?,
+        at,
+        port: sent.port,
+        values: values_of(alloc, sent.values)?,
+        dest: sent.dest,
     })
 }
 
@@ -133,7 +166,17 @@ pub fn step_of<A: Allocator + Copy>(alloc: A, graph: &Graph<A>, told: &Told) -> 
         Told::Release(p, name, list, to) => Some(Step::Release {
             p: *p,
             vertex: graph.location_of(name)?,
-            times: BoxedTimes::new(alloc, times_of(list, to)?).ok()?,
+            times: BoxedTimes::new(alloc, times_of(list, to, false)?).ok()?,
+        }),
+        Told::Keep(p, name, list, to) => Some(Step::Release {
+            p: *p,
+            vertex: graph.location_of(name)?,
+            times: BoxedTimes::new(alloc, times_of(list, &Some(*to), true)?).ok()?,
+        }),
+        Told::Send(p, name, sent) => Some(Step::Send {
+            p: *p,
+            vertex: graph.location_of(name)?,
+            batch: BoxedBatch::new(alloc, batch_of(alloc, sent)?).ok()?,
         }),
         Told::All(p) => Some(Step::Broadcast {
             p: *p,

@@ -49,12 +49,12 @@ all_pass false true c x y z h = cc
 all_pass false false true x y z h = cc
 all_pass false false false x y z h = (refl, refl, refl)
 
-tests : (most : ℕ) (g : Dataflow) → fault_of most g ≡ None
-    → (list_any (has_bad_port g.vertices) g.edges ≡ false) × (has_depth_mismatch g ≡ false) × (is_too_large most g ≡ false)
+tests : (most many : ℕ) (g : Dataflow) → fault_of most many g ≡ None
+    → (list_any (has_bad_port g.vertices) g.edges ≡ false) × (has_depth_mismatch g ≡ false) × (is_too_large most many g ≡ false)
 unfolding fault_of
-tests most g h = all_pass (list_any (has_bad_port g.vertices) g.edges) (has_depth_mismatch g) (is_too_large most g) BadPort DepthMismatch TooLarge h
+tests most many g h = all_pass (list_any (has_bad_port g.vertices) g.edges) (has_depth_mismatch g) (is_too_large most many g) BadPort DepthMismatch TooLarge h
 
--- ---- a lower limit of depth
+-- ---- lower limits
 
 none_more : {X : Type 0} (test more : X → Bool) → ((x : X) → test x ≡ false → more x ≡ false) → (xs : List X) → list_any test xs ≡ false → list_any more xs ≡ false
 none_more test more weaker [] h = refl
@@ -75,20 +75,20 @@ no_fault a b c d h weaker =
     let passed = all_pass a b c BadPort DepthMismatch TooLarge h in
     rw (passed.0, passed.1, weaker passed.2) refl
 
-smaller : (most least : ℕ) (g : Dataflow) → most ≤ least → is_too_large most g ≡ false → is_too_large least g ≡ false
+smaller : (most least many more : ℕ) (g : Dataflow) → most ≤ least → many ≤ more → is_too_large most many g ≡ false → is_too_large least more g ≡ false
 unfolding is_too_large leads_too_deep
-smaller most least g h e =
-    let few = or_parts (nat_lt max_locations (location_count g)) (list_any (is_too_deep most) g.vertices || list_any (leads_too_deep most g.vertices) g.edges) e in
+smaller most least many more g h k e =
+    let few = or_parts (nat_lt many (location_count g)) (list_any (is_too_deep most) g.vertices || list_any (leads_too_deep most g.vertices) g.edges) e in
     let flat = or_parts (list_any (is_too_deep most) g.vertices) (list_any (leads_too_deep most g.vertices) g.edges) few.1 in
-    or_from (nat_lt max_locations (location_count g)) (list_any (is_too_deep least) g.vertices || list_any (leads_too_deep least g.vertices) g.edges) few.0
+    or_from (nat_lt more (location_count g)) (list_any (is_too_deep least) g.vertices || list_any (leads_too_deep least g.vertices) g.edges) (lower many more (location_count g) k few.0)
     (or_from (list_any (is_too_deep least) g.vertices) (list_any (leads_too_deep least g.vertices) g.edges)
     (none_more (is_too_deep most) (is_too_deep least) (λ v. less_deep most least v.depth (leads_in (action_of v.op)) h) g.vertices flat.0)
     (none_more (leads_too_deep most g.vertices) (leads_too_deep least g.vertices) (λ x. lower most least (depth_past_vertex g.vertices x.from) h) g.edges flat.1))
 
--- a graph without errors for a limit of depth has none for a higher limit
-pub fewer_faults : (most least : ℕ) (g : Dataflow) → most ≤ least → fault_of most g ≡ None → fault_of least g ≡ None
+-- a graph without errors for some limits has none for higher limits
+pub fewer_faults : (most least many more : ℕ) (g : Dataflow) → most ≤ least → many ≤ more → fault_of most many g ≡ None → fault_of least more g ≡ None
 unfolding fault_of
-fewer_faults most least g h e = no_fault (list_any (has_bad_port g.vertices) g.edges) (has_depth_mismatch g) (is_too_large most g) (is_too_large least g) e (smaller most least g h)
+fewer_faults most least many more g h k e = no_fault (list_any (has_bad_port g.vertices) g.edges) (has_depth_mismatch g) (is_too_large most many g) (is_too_large least more g) e (smaller most least many more g h k)
 
 -- ---- depths
 
@@ -170,14 +170,14 @@ agree vertices ds l (e ∷ edges) long at from_here joined placed met =
 -- no input is in a loop, and no egress or feedback is outside all loops
 pub placed : (g : Dataflow) → IsFaultless g → All (λ v. is_misplaced v ≡ false) g.vertices
 unfolding has_depth_mismatch
-placed g h = none_of is_misplaced g.vertices (or_parts (list_any is_misplaced g.vertices) (list_any (misses_depth g.vertices) g.edges) (tests max_depth g h.faultless).1).0
+placed g h = none_of is_misplaced g.vertices (or_parts (list_any is_misplaced g.vertices) (list_any (misses_depth g.vertices) g.edges) (tests max_depth max_locations g h.faultless).1).0
 
 -- ---- the complete graph
 
 pub is_graph : (g : Dataflow) → IsFaultless g → IsGraph g (depths g) (arcs g)
 unfolding has_depth_mismatch is_too_large leads_too_deep
 is_graph g h =
-    let passed = tests max_depth g h.faultless in
+    let passed = tests max_depth max_locations g h.faultless in
     let placed = or_parts (list_any is_misplaced g.vertices) (list_any (misses_depth g.vertices) g.edges) passed.1 in
     let small = or_parts (ltb max_locations (location_count g)) (list_any (is_too_deep max_depth) g.vertices || list_any (leads_too_deep max_depth g.vertices) g.edges) passed.2 in
     let flat = or_parts (list_any (is_too_deep max_depth) g.vertices) (list_any (leads_too_deep max_depth g.vertices) g.edges) small.1 in

@@ -3,7 +3,7 @@ use Rattle.std.specs.Prelude.{◌≡◌, ℕ, ◌<◌, All, Bool, false, not, �
 use Rattle.std.specs.Option.{option_map_or}
 use Rattle.std.specs.List.{list_any, position}
 use Rattle.std.specs.Str.{bytes_eq}
-use Rattle.nd_time.specs.Limits.{max_depth, max_depth_v1, max_locations}
+use Rattle.nd_time.specs.Limits.{max_depth, max_depth_v1, max_locations, max_locations_v5}
 use Rattle.nd_graph.specs.declared.op.Op.{Op}
 use Rattle.nd_graph.specs.declared.graph.Vertex.{Vertex}
 use Rattle.nd_graph.specs.declared.graph.Edge.{Edge}
@@ -97,41 +97,45 @@ is_too_deep most v = nat_lt most v.depth || (leads_in (action_of v.op) && v.dept
 unfoldable pub leads_too_deep : ℕ → List Vertex → Edge → Bool
 leads_too_deep most vertices e = nat_lt most (depth_past_vertex vertices e.from)
 
--- there are too many locations, or a location is deeper than the limit
-unfoldable pub is_too_large : ℕ → Dataflow → Bool
-is_too_large most g =
-    nat_lt max_locations (location_count g)
+-- there are more than `many` locations, or a location is deeper than `most`
+unfoldable pub is_too_large : ℕ → ℕ → Dataflow → Bool
+is_too_large most many g =
+    nat_lt many (location_count g)
     || (list_any (is_too_deep most) g.vertices || list_any (leads_too_deep most g.vertices) g.edges)
 
 -- ---- all checks
 
--- the first error of a graph whose names are resolved, for this limit of depth
-unfoldable pub fault_of : ℕ → Dataflow → Option GraphFault
-fault_of most g =
+-- the first error of a graph whose names are resolved, for these limits of depth and of locations
+unfoldable pub fault_of : ℕ → ℕ → Dataflow → Option GraphFault
+fault_of most many g =
     if list_any (has_bad_port g.vertices) g.edges then Some BadPort else
     (if has_depth_mismatch g then Some DepthMismatch else
-    (if is_too_large most g then Some TooLarge else None))
+    (if is_too_large most many g then Some TooLarge else None))
 
 -- the graph, or its first error
-unfoldable pub judged : ℕ → Dataflow → Result Dataflow GraphFault
-judged most g = option_map_or (λ e. Err e) (fault_of most g) (Ok g)
+unfoldable pub judged : ℕ → ℕ → Dataflow → Result Dataflow GraphFault
+judged most many g = option_map_or (λ e. Err e) (fault_of most many g) (Ok g)
 
 -- the same, once the ends of the edges are looked up
-abbrev pub judged_with : ℕ → List Vertex → Result (List Edge) GraphFault → Result Dataflow GraphFault
-judged_with most vertices (Ok edges) = judged most (graph_of vertices edges)
-judged_with most vertices (Err e) = Err e
+abbrev pub judged_with : ℕ → ℕ → List Vertex → Result (List Edge) GraphFault → Result Dataflow GraphFault
+judged_with most many vertices (Ok edges) = judged most many (graph_of vertices edges)
+judged_with most many vertices (Err e) = Err e
 
--- the graph that a draft describes, or the error with the least number, for this limit of depth
-unfoldable pub checked_within : ℕ → Draft → Result Dataflow GraphFault
-checked_within most d = judged_with most d.vertices (edges_between d.vertices d.edges)
+-- the graph that a draft describes, or the error with the least number, for these limits of depth and of locations
+unfoldable pub checked_within : ℕ → ℕ → Draft → Result Dataflow GraphFault
+checked_within most many d = judged_with most many d.vertices (edges_between d.vertices d.edges)
 
--- the same, for the current limit of depth
+-- the same, for the current limits
 abbrev pub checked : Draft → Result Dataflow GraphFault
-checked = checked_within max_depth
+checked = checked_within max_depth max_locations
 
--- the same, for the limit of depth of version 1
+-- the same, for the limits of the versions 2 to 5
+abbrev pub checked_v5 : Draft → Result Dataflow GraphFault
+checked_v5 = checked_within max_depth max_locations_v5
+
+-- the same, for the limits of version 1
 abbrev pub checked_v1 : Draft → Result Dataflow GraphFault
-checked_v1 = checked_within max_depth_v1
+checked_v1 = checked_within max_depth_v1 max_locations_v5
 
 -- ---- what holds of a checked graph
 
@@ -144,4 +148,4 @@ pub record JoinsVertices (vertices : List Vertex) (e : Edge) : Type 0 where
 pub record IsFaultless (g : Dataflow) : Type 0 where
   pub once : has_double (names g) ≡ false
   pub joined : All (JoinsVertices g.vertices) g.edges
-  pub faultless : fault_of max_depth g ≡ None
+  pub faultless : fault_of max_depth max_locations g ≡ None

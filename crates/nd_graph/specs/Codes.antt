@@ -1,9 +1,9 @@
 -- Graphs encoded as numbers, so that the value of a model can contain a graph.
-use Rattle.std.specs.Prelude.{◌≡◌, ℕ, ℤ, pos, Bool, true, false, List, [], ◌∷◌, slice_index_or, refl}
+use Rattle.std.specs.Prelude.{◌≡◌, ℕ, ℤ, pos, Bool, true, false, List, [], ◌∷◌, slice_index_or, unsigned_abs, refl}
 use Rattle.std.specs.Coded.{Coded, code_by, coded×, coded_ℕ, coded_ℤ, coded_bool, coded_list}
 use Rattle.nd_graph.specs.Graph.{Dataflow}
 use Rattle.nd_graph.specs.declared.op.Op.{Op}
-use Rattle.nd_graph.specs.declared.op.Op.TheVariants.{Input, Ingress, Egress, Feedback, Add, Mul, Below, Split, Sum, Distinct, Hold, Sink}
+use Rattle.nd_graph.specs.declared.op.Op.TheVariants.{Input, Ingress, Egress, Feedback, Add, Mul, Below, Split, Sum, Distinct, Hold, Opaque, Sink}
 use Rattle.nd_graph.specs.declared.op.Route.{Route}
 use Rattle.nd_graph.specs.declared.op.Route.TheVariants.{Local, Exchange}
 use Rattle.nd_graph.specs.declared.graph.Vertex.{Vertex}
@@ -22,15 +22,20 @@ op_parts (Split k) = (7, k)
 op_parts Sum = (8, pos 0)
 op_parts Distinct = (9, pos 0)
 op_parts Hold = (10, pos 0)
-op_parts Sink = (11, pos 0)
+op_parts (Opaque ports false) = (11, pos ports)
+op_parts (Opaque ports true) = (12, pos ports)
+op_parts Sink = (13, pos 0)
 
 abbrev pub op_of : ℕ × ℤ → Op
 op_of p =
     slice_index_or
-    (Input ∷ Ingress ∷ Egress ∷ Feedback ∷ Add p.1 ∷ Mul p.1 ∷ Below p.1 ∷ Split p.1 ∷ Sum ∷ Distinct ∷ Hold ∷ [])
+    (Input ∷ Ingress ∷ Egress ∷ Feedback ∷ Add p.1 ∷ Mul p.1 ∷ Below p.1 ∷ Split p.1 ∷ Sum ∷ Distinct ∷ Hold ∷ Opaque (unsigned_abs p.1) false
+    ∷ Opaque (unsigned_abs p.1) true ∷ [])
     p.0 Sink
 
 pub op_back : (o : Op) → op_of (op_parts o) ≡ o
+op_back (Opaque ports false) = refl
+op_back (Opaque ports true) = refl
 op_back Input = refl
 op_back _ = refl
 

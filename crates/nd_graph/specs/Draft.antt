@@ -1,9 +1,10 @@
 -- The JSON form of a graph (this project's own rule).
-use Rattle.std.specs.Prelude.{ℕ, ℤ, Bool, true, false, List, [], ◌∷◌, if◌then◌else◌, Option, Some, None, option_map, option_and_then, codes}
+use Rattle.std.specs.Prelude.{ℕ, ℤ, Bool, true, false, not, ◌&&◌, nat_le, List, [], ◌∷◌, if◌then◌else◌, Option, Some, None, option_map, option_and_then, codes}
 use Rattle.std.specs.Str.{bytes_eq}
 use Rattle.std.specs.List.{list_any}
 use Rattle.serde_json.specs.Data.{Data}
-use Rattle.nd_json.specs.Forms.{has_keys, text_at, small_at, integer_at, list_at}
+use Rattle.nd_time.specs.Limits.{max_ports}
+use Rattle.nd_json.specs.Forms.{has_keys, text_at, small_at, integer_at, boolean_at, list_at}
 use Rattle.nd_graph.specs.Name.{is_name}
 use Rattle.nd_graph.specs.declared.op.Op.{Op}
 use Rattle.nd_graph.specs.declared.op.Op.TheVariants as op
@@ -46,19 +47,32 @@ numbered_op text k =
     (if bytes_eq text (codes "below") then Some (op.Below k) else
     (if bytes_eq text (codes "split") then Some (op.Split k) else None)))
 
+-- the opaque operator with so many ports that a text names
+unfoldable pub opaque_op : List ℕ → ℕ → Bool → Option Op
+opaque_op text ports starts = if bytes_eq text (codes "opaque") && nat_le ports max_ports then Some (op.Opaque ports starts) else None
+
+-- an opaque operator; its number of ports is at the key "ports"
+abbrev pub opaque_of : Data → Bool → Option Op
+opaque_of d starts = option_and_then (λ text. option_and_then (λ ports. opaque_op text ports starts) (small_at (codes "ports") d)) (text_at (codes "op") d)
+
 unfoldable pub route_of : List ℕ → Option Route
 route_of text =
     if bytes_eq text (codes "local") then Some Local else
     (if bytes_eq text (codes "exchange") then Some Exchange else None)
 
--- the operator of a vertex; its constant is at the key "k"
+-- the operator of a vertex; its constant is at the key "k", its ports and whether it starts with a capability at "ports" and
+-- "starts"
 unfoldable pub op_of : Data → Option Op
 op_of d =
     if has_keys (codes "depth" ∷ codes "name" ∷ codes "op" ∷ []) d
     then option_and_then plain_op (text_at (codes "op") d)
     else (if has_keys (codes "depth" ∷ codes "k" ∷ codes "name" ∷ codes "op" ∷ []) d
     then option_and_then (λ text. option_and_then (numbered_op text) (integer_at (codes "k") d)) (text_at (codes "op") d)
-    else None)
+    else (if has_keys (codes "depth" ∷ codes "name" ∷ codes "op" ∷ codes "ports" ∷ []) d
+    then opaque_of d false
+    else (if has_keys (codes "depth" ∷ codes "name" ∷ codes "op" ∷ codes "ports" ∷ codes "starts" ∷ []) d
+    then option_and_then (opaque_of d) (boolean_at (codes "starts") d)
+    else None)))
 
 -- the name of a vertex or an edge
 unfoldable pub name_in : Data → Option (List ℕ)
@@ -98,19 +112,24 @@ draft_of d =
     (λ edges. record { vertices = vertices; edges = edges }) (edges_in d)) (vertices_in d)
     else None
 
--- ---- versions before 5
+-- ---- earlier versions
 
-abbrev pub holds : Op → Bool
-holds op.Hold = true
-holds _ = false
+abbrev pub is_opaque : Op → Bool
+is_opaque (op.Opaque _ _) = true
+is_opaque _ = false
 
-abbrev pub is_hold : Vertex → Bool
-is_hold v = holds v.op
+abbrev pub is_hold : Op → Bool
+is_hold op.Hold = true
+is_hold _ = false
 
--- the draft, if it has no hold vertex
-abbrev pub without_hold : Draft → Option Draft
-without_hold draft = if list_any is_hold draft.vertices then None else Some draft
+-- the draft, if none of its vertices has such an operator
+abbrev pub without : (Op → Bool) → Draft → Option Draft
+without banned draft = if list_any (λ v. banned v.op) draft.vertices then None else Some draft
 
--- the graph that a JSON value describes in a script of a version before 5
+-- the graph that a JSON value describes in a script of a version before 6
+unfoldable pub draft_of_v5 : Data → Option Draft
+draft_of_v5 d = option_and_then (without is_opaque) (draft_of d)
+
+-- the same for a version before 5
 unfoldable pub draft_of_v4 : Data → Option Draft
-draft_of_v4 d = option_and_then without_hold (draft_of d)
+draft_of_v4 d = option_and_then (without is_hold) (draft_of_v5 d)

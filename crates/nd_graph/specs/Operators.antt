@@ -16,26 +16,40 @@ pub record Facts : Type 0 where
   pub asks : Bool
   -- whether they count the values that reach them
   pub counts : Bool
+  -- whether a request at them is a held capability: it is never notified, and a release gives it up
+  pub holds : Bool
+  -- whether a capability that is held there supports what its processor has not broadcast yet, as a token does
+  pub supports : Bool
+  -- whether each processor holds a capability of them at the start
+  pub starts : Bool
+
+-- the facts of an operator with this action and so many ports, that does nothing else
+abbrev pub plain_with : Action → ℕ → Facts
+plain_with a n = record { action = a; ports = n; fed = false; asks = false; counts = false; holds = false; supports = false; starts = false }
 
 -- the facts of most operators: one port, and nothing else
 abbrev pub plain : Action → Facts
-plain a = record { action = a; ports = 1; fed = false; asks = false; counts = false }
+plain a = plain_with a 1
 
--- the facts of each operator: its action, its number of ports, and whether it receives values from outside, makes requests and
--- counts values
+-- the facts of an operator that makes requests
+abbrev pub asking : Facts
+asking = record (plain Identity) { asks = true }
+
+-- the facts of each operator
 abbrev pub facts : Op → Facts
-facts op.Input = record { action = Identity; ports = 1; fed = true; asks = false; counts = false }
+facts op.Input = record (plain Identity) { fed = true }
 facts op.Ingress = plain Ingress
 facts op.Egress = plain Egress
 facts op.Feedback = plain Feedback
 facts (op.Add k) = plain Identity
 facts (op.Mul k) = plain Identity
 facts (op.Below k) = plain Identity
-facts (op.Split k) = record { action = Identity; ports = 2; fed = false; asks = false; counts = false }
-facts op.Sum = record { action = Identity; ports = 1; fed = false; asks = true; counts = false }
-facts op.Distinct = record { action = Identity; ports = 1; fed = false; asks = true; counts = false }
-facts op.Hold = record { action = Identity; ports = 1; fed = false; asks = true; counts = false }
-facts op.Sink = record { action = Identity; ports = 0; fed = false; asks = false; counts = true }
+facts (op.Split k) = plain_with Identity 2
+facts op.Sum = asking
+facts op.Distinct = asking
+facts op.Hold = record asking { holds = true }
+facts (op.Opaque ports starts) = record (plain_with Identity ports) { asks = true; holds = true; supports = true; starts = starts }
+facts op.Sink = record (plain_with Identity 0) { counts = true }
 
 -- whether a vertex with this action must be inside a loop: an egress or a feedback
 abbrev pub stands_in_loop : Action → Bool

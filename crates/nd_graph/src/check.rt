@@ -1,14 +1,10 @@
 //! Checks a graph whose names are resolved: its ports, its depths and its size.
 ghost use Rattle.std.specs.Prelude.{◌≡◌, ◌+◌, nat_lt};
 ghost use Rattle.std.specs.List.{list_any};
-ghost use Rattle.nd_time.specs.Limits.{max_locations};
 ghost use Rattle.nd_graph.specs.Graph.{graph_of, depth_past as past_depth, action_of, depth_past_vertex};
 ghost use Rattle.nd_graph.specs.Checked as rule;
 
 use crate::{Action, Edge, GraphFault, Vertex};
-
-/// The maximum number of locations of a graph (this project's own rule).
-const MAX_LOCATIONS: usize = 64;
 
 #[tactic(auto, unfolding(crate::specs::Checked::has_bad_port))]
 fn has_bad_port(vertices: &[Vertex], edge: &Edge) -> bool
@@ -124,31 +120,37 @@ fn has_depth_mismatch(vertices: &[Vertex], edges: &[Edge]) -> bool
     some_is_misplaced(vertices) || some_misses_depth(vertices, edges)
 }
 
-fn are_too_many(vertices: usize, edges: usize) -> bool
-    ensures { result ≡ nat_lt max_locations (vertices + edges) }
+fn are_too_many(many: usize, vertices: usize, edges: usize) -> bool
+    ensures { result ≡ nat_lt many (vertices + edges) }
 {
-    MAX_LOCATIONS < vertices || MAX_LOCATIONS - vertices < edges
+    many < vertices || many - vertices < edges
 }
 
 #[tactic(auto, unfolding(crate::specs::Checked::is_too_large))]
-fn is_too_large(most: usize, vertices: &[Vertex], edges: &[Edge]) -> bool
-    ensures { result ≡ rule.is_too_large most (graph_of vertices.now edges.now) }
+fn is_too_large(most: usize, many: usize, vertices: &[Vertex], edges: &[Edge]) -> bool
+    ensures { result ≡ rule.is_too_large most many (graph_of vertices.now edges.now) }
 {
-    are_too_many(vertices.len(), edges.len())
+    are_too_many(many, vertices.len(), edges.len())
         || some_is_too_deep(most, vertices)
         || some_leads_too_deep(most, vertices, edges)
 }
 
-/// Returns the first error of a graph whose names are resolved, if depths may be at most `most`.
+/// Returns the first error of a graph whose names are resolved, if depths may be at most `most`, and locations at most
+/// `many`.
 #[tactic(auto, unfolding(crate::specs::Checked::fault_of))]
-pub(crate) fn fault_of(most: usize, vertices: &[Vertex], edges: &[Edge]) -> Option<GraphFault>
-    ensures { result ≡ rule.fault_of most (graph_of vertices.now edges.now) }
+pub(crate) fn fault_of(
+    most: usize,
+    many: usize,
+    vertices: &[Vertex],
+    edges: &[Edge],
+) -> Option<GraphFault>
+    ensures { result ≡ rule.fault_of most many (graph_of vertices.now edges.now) }
 {
     if some_has_bad_port(vertices, edges) {
         Some(GraphFault::BadPort)
     } else if has_depth_mismatch(vertices, edges) {
         Some(GraphFault::DepthMismatch)
-    } else if is_too_large(most, vertices, edges) {
+    } else if is_too_large(most, many, vertices, edges) {
         Some(GraphFault::TooLarge)
     } else {
         None

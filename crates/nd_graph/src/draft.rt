@@ -3,8 +3,8 @@ ghost use Rattle.std.specs.Prelude.{◌≡◌, ◌≤◌, ◌⊎◌, IfOk, IfErr
 ghost use Rattle.std.specs.List.{list_any};
 ghost use Rattle.serde_json.specs.View.{view};
 ghost use Rattle.nd_graph.specs.Draft as form;
-ghost use Rattle.nd_time.specs.Limits.{max_depth};
-ghost use Rattle.nd_graph.specs.Checked.{checked, checked_v1, checked_within};
+ghost use Rattle.nd_time.specs.Limits.{max_depth, max_locations};
+ghost use Rattle.nd_graph.specs.Checked.{checked, checked_v1, checked_v5, checked_within};
 ghost use Rattle.nd_graph.specs.Fault.{IsUnlessMemory};
 ghost use Rattle.nd_graph.specs.declared.fault.GraphFault.TheVariants.{Shape, Memory};
 
@@ -12,7 +12,7 @@ use crate::build::built;
 use crate::check::fault_of;
 use crate::names::edges_between;
 use crate::{Graph, GraphFault, Name, Op, Route, Vertex};
-use nd_json::{has_keys, integer_at, list_at, small_at, text_at};
+use nd_json::{boolean_at, has_keys, integer_at, list_at, small_at, text_at};
 use nd_time::MAX_DEPTH;
 use serde_json::Value;
 use std::alloc::{Allocator, Global};
@@ -20,6 +20,14 @@ use std::marker::Model;
 
 /// The maximum nesting of loops in a graph of version 1.
 const MAX_DEPTH_V1: usize = 4;
+
+/// The maximum number of locations of a graph; the next one is that of the versions before 6 (this project's own rule).
+const MAX_LOCATIONS: usize = 256;
+
+const MAX_LOCATIONS_V5: usize = 64;
+
+/// The maximum number of output ports of an opaque vertex.
+const MAX_PORTS: u32 = 16;
 
 /// An edge as it is written.
 #[derive(Debug, Drop)]
@@ -66,13 +74,29 @@ impl<A: Allocator> GraphDraft<A> {
         Ok(GraphDraft { vertices, edges })
     }
 
-    /// Does the same for a graph of the versions before 5, in which no vertex is a hold.
+    /// Does the same for a graph of the versions before 6, in which no vertex is opaque.
+    pub fn from_value_v5(alloc: A, value: &Value) -> Result<GraphDraft<A>, GraphFault>
+    where
+        A: Copy,
+        ensures { IsUnlessMemory (ok_or (form.draft_of_v5 (view value.now)) Shape) result }
+    {
+        let draft = match GraphDraft::from_value(alloc, value) {
+            Ok(draft) => draft,
+            Err(fault) => return Err(fault),
+        };
+        if some_is_opaque(&draft.vertices) {
+            return Err(GraphFault::Shape);
+        }
+        Ok(draft)
+    }
+
+    /// Does the same for a graph of the versions before 5, in which no vertex is a hold or opaque.
     pub fn from_value_v4(alloc: A, value: &Value) -> Result<GraphDraft<A>, GraphFault>
     where
         A: Copy,
         ensures { IsUnlessMemory (ok_or (form.draft_of_v4 (view value.now)) Shape) result }
     {
-        let draft = match GraphDraft::from_value(alloc, value) {
+        let draft = match GraphDraft::from_value_v5(alloc, value) {
             Ok(draft) => draft,
             Err(fault) => return Err(fault),
         };
@@ -83,38 +107,48 @@ impl<A: Allocator> GraphDraft<A> {
     }
 
     /// Checks the graph, and replaces the names of its edges' ends by locations. Of several errors it returns the one with the
-    /// least number, and never `Shape`. A location may be in at most 6 nested loops.
+    /// least number, and never `Shape`. A graph may have 256 locations, each in at most 6 nested loops.
     pub fn check(self, alloc: A) -> Result<Graph<A>, GraphFault>
     where
         A: Copy,
         ensures { IsUnlessMemory (checked self) result }
     {
-        self.check_within(alloc, MAX_DEPTH)
+        self.check_within(alloc, MAX_DEPTH, MAX_LOCATIONS)
     }
 
-    /// Does the same for a graph of version 1: a location may be in at most 4 nested loops.
+    /// Does the same for a graph of the versions 2 to 5, which may have 64 locations.
+    pub fn check_v5(self, alloc: A) -> Result<Graph<A>, GraphFault>
+    where
+        A: Copy,
+        ensures { IsUnlessMemory (checked_v5 self) result }
+    {
+        self.check_within(alloc, MAX_DEPTH, MAX_LOCATIONS_V5)
+    }
+
+    /// Does the same for a graph of version 1, which may have 64 locations, each in at most 4 nested loops.
     pub fn check_v1(self, alloc: A) -> Result<Graph<A>, GraphFault>
     where
         A: Copy,
         ensures { IsUnlessMemory (checked_v1 self) result }
     {
-        self.check_within(alloc, MAX_DEPTH_V1)
+        self.check_within(alloc, MAX_DEPTH_V1, MAX_LOCATIONS_V5)
     }
 
-    // Checks the graph, if a location may be in at most `most` nested loops.
+    // Checks the graph, if it may have `many` locations, each in at most `most` nested loops.
     #[tactic(auto, unfolding(crate::specs::Checked::checked_within))]
-    fn check_within(self, alloc: A, most: usize) -> Result<Graph<A>, GraphFault>
+    fn check_within(self, alloc: A, most: usize, many: usize) -> Result<Graph<A>, GraphFault>
     where
         A: Copy,
-        requires { most ≤ max_depth }
-        ensures { IsUnlessMemory (checked_within most self) result }
+        requires deep { most ≤ max_depth }
+        requires few { many ≤ max_locations }
+        ensures { IsUnlessMemory (checked_within most many self) result }
     {
         let GraphDraft {
             vertices,
             edges: written,
         } = self;
         let edges = edges_between(alloc, &vertices, &written)?;
-        if let Some(fault) = fault_of(most, &vertices, &edges) {
+        if let Some(fault) = fault_of(most, many, &vertices, &edges) {
             return Err(fault);
         }
         Ok(built(alloc, vertices, edges)?)
@@ -180,16 +214,28 @@ fn edge_of(value: &Value) -> Option<DraftEdge>
     })
 }
 
-fn is_hold(vertex: &Vertex) -> bool
-    ensures { result ≡ form.is_hold vertex.now }
+fn is_opaque(op: Op) -> bool
+    ensures { result ≡ form.is_opaque op }
 {
-    matches!(vertex.op, Op::Hold)
+    matches!(op, Op::Opaque { .. })
+}
+
+fn some_is_opaque(vertices: &[Vertex]) -> bool
+    ensures { result ≡ list_any (λ v. form.is_opaque v.op) vertices.now }
+{
+    vertices.iter().any(|vertex| is_opaque(vertex.op))
+}
+
+fn is_hold(op: Op) -> bool
+    ensures { result ≡ form.is_hold op }
+{
+    matches!(op, Op::Hold)
 }
 
 fn some_holds(vertices: &[Vertex]) -> bool
-    ensures { result ≡ list_any form.is_hold vertices.now }
+    ensures { result ≡ list_any (λ v. form.is_hold v.op) vertices.now }
 {
-    vertices.iter().any(|vertex| is_hold(vertex))
+    vertices.iter().any(|vertex| is_hold(vertex.op))
 }
 
 fn name_of(text: &str) -> Option<Name>
@@ -213,6 +259,11 @@ fn op_of(value: &Value) -> Option<Op>
         plain_op(text_at(value, "op")?)
     } else if has_keys(value, ["depth", "k", "name", "op"].as_slice()) {
         numbered_op(text_at(value, "op")?, integer_at(value, "k")?)
+    } else if has_keys(value, ["depth", "name", "op", "ports"].as_slice()) {
+        opaque_op(text_at(value, "op")?, small_at(value, "ports")?, false)
+    } else if has_keys(value, ["depth", "name", "op", "ports", "starts"].as_slice()) {
+        let starts = boolean_at(value, "starts")?;
+        opaque_op(text_at(value, "op")?, small_at(value, "ports")?, starts)
     } else {
         None
     }
@@ -245,6 +296,17 @@ fn numbered_op(text: &str, k: i64) -> Option<Op>
         "below" => Some(Op::Below(k)),
         "split" => Some(Op::Split(k)),
         _ => None,
+    }
+}
+
+#[tactic(auto, unfolding(crate::specs::Draft::opaque_op))]
+fn opaque_op(text: &str, ports: u32, starts: bool) -> Option<Op>
+    ensures { result ≡ form.opaque_op text.now ports starts }
+{
+    if text == "opaque" && ports <= MAX_PORTS {
+        Some(Op::Opaque { ports, starts })
+    } else {
+        None
     }
 }
 

@@ -29,6 +29,14 @@ pub enum Op {
     Distinct,
     /// Emits each value, and holds a capability at its time until the capability is released.
     Hold,
+    /// An operator whose code is elsewhere: it emits nothing by itself, and holds a capability at the time of
+    /// each value until the capability is released.
+    Opaque {
+        /// The number of its output ports.
+        ports: u32,
+        /// Whether each processor holds a capability of it at the start.
+        starts: bool,
+    },
     /// Counts the values that reach it.
     Sink,
 }
@@ -75,6 +83,7 @@ impl Op {
         match self {
             Op::Sink => 0,
             Op::Split(_) => 2,
+            Op::Opaque { ports, .. } => ports,
             _ => 1,
         }
     }
@@ -90,7 +99,7 @@ impl Op {
     pub fn asks_for_notices(self) -> bool
         ensures { result ≡ (facts self).asks }
     {
-        matches!(self, Op::Sum | Op::Distinct | Op::Hold)
+        matches!(self, Op::Sum | Op::Distinct | Op::Hold | Op::Opaque { .. })
     }
 
     /// Returns whether a vertex with this operator counts the values that reach it.
@@ -98,5 +107,28 @@ impl Op {
         ensures { result ≡ (facts self).counts }
     {
         matches!(self, Op::Sink)
+    }
+
+    /// Returns whether a request at a vertex with this operator is a held capability: it is never notified, and a
+    /// release gives it up.
+    pub fn holds(self) -> bool
+        ensures { result ≡ (facts self).holds }
+    {
+        matches!(self, Op::Hold | Op::Opaque { .. })
+    }
+
+    /// Returns whether a capability that is held at a vertex with this operator supports what its processor
+    /// has not broadcast yet, as a token does.
+    pub fn supports(self) -> bool
+        ensures { result ≡ (facts self).supports }
+    {
+        matches!(self, Op::Opaque { .. })
+    }
+
+    /// Returns whether each processor holds a capability of a vertex with this operator at the start.
+    pub fn starts(self) -> bool
+        ensures { result ≡ (facts self).starts }
+    {
+        matches!(self, Op::Opaque { starts: true, .. })
     }
 }

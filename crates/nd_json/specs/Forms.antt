@@ -3,7 +3,7 @@ use Rattle.std.specs.Prelude.{ℕ, ◌^◌, ◌&&◌, ℤ, Bool, true, false, na
 use Rattle.std.specs.Option.{option_map_or}
 use Rattle.std.specs.Str.{bytes_eq}
 use Rattle.serde_json.specs.Data.{Data, null, boolean, number, string, array, object, Items, no_items, item, Members, no_members, member}
-use Rattle.serde_json.specs.Find.{get, as_number, as_u64, as_i64, as_str, as_array}
+use Rattle.serde_json.specs.Find.{get, as_number, as_u64, as_i64, as_str, as_bool, as_array}
 
 -- the items of an array as a list
 abbrev pub listed : Items → List Data
@@ -47,6 +47,10 @@ small d = option_and_then (λ n. if nat_lt n (2 ^ 32) then Some n else None) (wh
 unfoldable pub integer : Data → Option ℤ
 integer d = option_and_then as_i64 (as_number d)
 
+-- the value as a boolean, if it is one
+unfoldable pub boolean_in : Data → Option Bool
+boolean_in d = as_bool d
+
 -- the items of the value, if it is an array
 unfoldable pub list : Data → Option (List Data)
 list d = option_map listed (as_array d)
@@ -70,6 +74,10 @@ small_at key d = option_and_then small (get key d)
 -- the integer from -2^63 to 2^63 - 1 at the key
 abbrev pub integer_at : List ℕ → Data → Option ℤ
 integer_at key d = option_and_then integer (get key d)
+
+-- the boolean at the key
+abbrev pub boolean_at : List ℕ → Data → Option Bool
+boolean_at key d = option_and_then boolean_in (get key d)
 
 -- the items of the array at the key
 abbrev pub list_at : List ℕ → Data → Option (List Data)

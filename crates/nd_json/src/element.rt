@@ -1,4 +1,4 @@
-//! Reads a JSON value as a string, a number or an array.
+//! Reads a JSON value as a string, a number, a boolean or an array.
 ghost use Rattle.std.specs.Prelude.{◌≡◌, map, option_map};
 ghost use Rattle.serde_json.specs.View.{view};
 ghost use Rattle.nd_json.specs.Forms as form;
@@ -40,6 +40,14 @@ pub fn integer(value: &Value) -> Option<i64>
     ensures { result ≡ form.integer (view value.now) }
 {
     value.as_i64()
+}
+
+/// Returns the boolean, or `None` if the value is not one.
+#[tactic(auto, unfolding(crate::specs::Forms::boolean_in))]
+pub fn boolean(value: &Value) -> Option<bool>
+    ensures { result ≡ form.boolean_in (view value.now) }
+{
+    value.as_bool()
 }
 
 /// Returns the items, or `None` if the value is not an array.

@@ -4,5 +4,7 @@
 mod element;
 mod object;
 
-pub use element::{integer, list, small, text, whole};
-pub use object::{has_keys, has_text, integer_at, list_at, small_at, text_at, whole_at};
+pub use element::{boolean, integer, list, small, text, whole};
+pub use object::{
+    boolean_at, has_keys, has_text, integer_at, list_at, small_at, text_at, whole_at,
+};

@@ -66,6 +66,13 @@ pub fn integer_at(value: &Value, key: &str) -> Option<i64>
     value.get(key).and_then(element::integer)
 }
 
+/// Returns the boolean at `key`, or `None` if there is none.
+pub fn boolean_at(value: &Value, key: &str) -> Option<bool>
+    ensures { result ≡ form.boolean_at key.now (view value.now) }
+{
+    value.get(key).and_then(element::boolean)
+}
+
 /// Returns the items of the array at `key`, or `None` if there is none.
 pub fn list_at<'v>(value: &'v Value, key: &str) -> Option<&'v [Value]>
     ensures { option_map (λ vs. map view vs.now) result ≡ form.list_at key.now (view value.now) }

@@ -94,10 +94,6 @@ pub record IsTable {A : Type 0} (g : Dataflow) (rows : List (Vec (Option Summary
   pub least : (a : ℕ) (d : Vec (Option Summary) A) → a < length (depths g)
       → IsLeast g a (slice_index_or rows a d).items
 
--- the copies have the same items as the rows
-abbrev pub AreCopies : {A : Type 0} → List (Vec (Option Summary) A) → List (Vec (Option Summary) A) → Type 0
-AreCopies {A} rows copies = (length copies ≡ length rows) × ((a : ℕ) (d : Vec (Option Summary) A) → a < length rows → (slice_index_or copies a d).items ≡ (slice_index_or rows a d).items)
-
 -- each summary held at b is at the position for the number of counters that it keeps
 abbrev pub KeepsPlaces : List (Option Summary) → ℕ → Type 0
 KeepsPlaces row b = (r : ℕ) (s : Summary) → held row b r ≡ Some s → s.keep ≡ r

@@ -12,29 +12,31 @@ ghost use Rattle.nd_paths.specs.Arrival.{TurnsInto, CoverAll, WalksLeadOn};
 
 use crate::accept::{PathFault, rows_of};
 use crate::arrival::{ArrivalTime, turned_by};
-use crate::table::{KEEPS, copied_rows, holds_any, leads_among, listed};
+use crate::table::{KEEPS, holds_any, leads_among, listed};
 use crate::{Pointstamp, Summary};
 use arrayvec::ArrayVec;
 use nd_graph::Graph;
 use std::alloc::{AllocError, Allocator, Global};
 use std::marker::Model;
+use std::sync::Arc as Shared;
 
 /// An accepted graph, and the order of its pointstamps (Naiad, SOSP 2013, section 2.3).
 ///
 /// A table decides the order: for each pair of locations and each number of kept counters it has the
-/// least summary of the walks between them that keep this many.
+/// least summary of the walks between them that keep this many. All copies share one table.
 pub struct Paths<A: Allocator = Global> {
     graph: Graph<A>,
-    rows: Vec<Vec<Option<Summary>, A>, A>,
+    table: Shared<Vec<Vec<Option<Summary>, A>, A>, A>,
 }
 
 impl<A: Allocator> Drop for Paths<A> {
     fn drop(self) {
-        let Paths { graph: _, rows: _ } = self;
+        let Paths { graph: _, table: _ } = self;
     }
 }
 
 impl<A: Allocator> Model for Paths<A> {
+    ghost use Rattle.std.specs.Arc.{arc_value};
     ghost use Rattle.nd_graph.specs.Graph.{Dataflow};
     ghost use Rattle.nd_paths.specs.Table.{IsTable};
 
@@ -42,7 +44,7 @@ impl<A: Allocator> Model for Paths<A> {
 
     ghost view = { λ a. a.graph };
 
-    ghost invariant = { λ a. IsTable a.graph a.rows.items };
+    ghost invariant = { λ a. IsTable a.graph (arc_value a.table).items };
 }
 
 impl<A: Allocator> Paths<A> {
@@ -56,7 +58,17 @@ impl<A: Allocator> Paths<A> {
     {
         let rows = rows_of(alloc, graph)?;
         let graph = graph.copy(alloc)?;
-        Ok(Paths { graph, rows })
+        match Shared::new(alloc, rows) {
+            Ok(table) => Ok(Paths { graph, table }),
+            Err(_) => Err(PathFault::Memory),
+        }
+    }
+
+    // Returns the rows of the table.
+    fn rows(&self) -> &[Vec<Option<Summary>, A>]
+        ensures { IsTable self.now result.now }
+    {
+        &self.table
     }
 
     /// Returns the graph.
@@ -67,22 +79,22 @@ impl<A: Allocator> Paths<A> {
         &self.graph
     }
 
-    /// Returns an equal order.
+    /// Returns an equal order, with the same table.
     pub fn copy(&self, alloc: A) -> Result<Paths<A>, AllocError>
     where
         A: Copy,
         ensures { IfOk result (λ p. p ≡ self.now) }
     {
         let graph = self.graph.copy(alloc)?;
-        let rows = copied_rows(alloc, &self.rows)?;
-        Ok(Paths { graph, rows })
+        let table = Shared::try_clone(&self.table)?;
+        Ok(Paths { graph, table })
     }
 
     /// Returns whether `s` could result in `t`. It could not if one of them does not fit the graph.
     pub fn before(&self, s: &Pointstamp, t: &Pointstamp) -> bool
         ensures { IsTrue result ↔ CouldResultIn self.now s.now t.now }
     {
-        could_result_in(&self.graph, &self.rows, s, t)
+        could_result_in(&self.graph, self.rows(), s, t)
     }
 
     /// Returns whether `s` could result in `t` and differs from it.
@@ -99,7 +111,7 @@ impl<A: Allocator> Paths<A> {
         requires to { to < location_count self.now }
         ensures { AreLeastSummaries self.now from to result.items }
     {
-        listed(&self.rows[from], to)
+        listed(&self.rows()[from], to)
     }
 
     /// Returns times into which walks from `point` to the location `to` turn its time, the least ones among them.
@@ -113,7 +125,7 @@ impl<A: Allocator> Paths<A> {
         if !point.fits(&self.graph) || to >= self.graph.location_count() {
             return ArrayVec::new();
         }
-        turned_by(&self.rows[point.location], to, &point.time)
+        turned_by(&self.rows()[point.location], to, &point.time)
     }
 
     /// Returns whether some walk leads from one location to another.
@@ -122,7 +134,7 @@ impl<A: Allocator> Paths<A> {
         requires to { to < location_count self.now }
         ensures { IsTrue result ↔ ((walk : List Arc) × IsWalk self.now from walk to) }
     {
-        holds_any(&self.rows[from], to)
+        holds_any(&self.rows()[from], to)
     }
 
     /// States that the order is a partial order, and that among finitely many pointstamps there is one with
@@ -138,7 +150,7 @@ impl<A: Allocator> Paths<A> {
         ensures minimal { (p : Pointstamp) (ps : List Pointstamp)
             → (m : Pointstamp) × IsMinimalAmong self.now (p ∷ ps) m }
     {
-        let _ = &self.rows;
+        let _ = self.rows();
     }
 
     /// States that a pointstamp could result in each time into which a walk turns its own, at the end of
@@ -146,7 +158,7 @@ impl<A: Allocator> Paths<A> {
     pub fn walks_lead_on(&self)
         ensures { WalksLeadOn self.now }
     {
-        let _ = &self.rows;
+        let _ = self.rows();
     }
 
     /// States that of two pointstamps the first is strictly before the second, or it is not.
@@ -154,7 +166,7 @@ impl<A: Allocator> Paths<A> {
         ensures { (s t : Pointstamp)
             → IsStrictlyBefore self.now s t ⊎ (IsStrictlyBefore self.now s t → ⊥) }
     {
-        let _ = &self.rows;
+        let _ = self.rows();
     }
 }
 

@@ -5,7 +5,7 @@ ghost use Rattle.std.specs.Option.{option_copied};
 ghost use Rattle.nd_time.specs.Limits.{max_depth, max_locations};
 ghost use Rattle.nd_graph.specs.Graph.{arcs as arcs_of, depths as depths_of};
 ghost use Rattle.nd_paths.specs.Steps.{keeps};
-ghost use Rattle.nd_paths.specs.Table.{held, start_row, CanRelax, Relaxed, Quiet, HasWalks, CoversShort, ShowsFail, Closes, SomeLeads, HeldFit, HoldsAny, AreCopies, KeepsPlaces, IsListed};
+ghost use Rattle.nd_paths.specs.Table.{held, start_row, CanRelax, Relaxed, Quiet, HasWalks, CoversShort, ShowsFail, Closes, SomeLeads, HeldFit, HoldsAny, KeepsPlaces, IsListed};
 
 use crate::Summary;
 use arrayvec::ArrayVec;
@@ -187,35 +187,4 @@ pub fn listed(row: &[Option<Summary>], location: usize) -> ArrayVec<Summary, KEE
         }
     }
     list
-}
-
-// Returns an equal row.
-fn copied_row<A: Allocator>(
-    alloc: A,
-    row: &[Option<Summary>],
-) -> Result<Vec<Option<Summary>, A>, AllocError>
-    ensures { IfOk result (λ v. v.items ≡ row.now) }
-{
-    let mut copied = Vec::with_capacity(alloc, row.len())?;
-    for entry in row {
-        match entry {
-            Some(summary) => copied.push(Some(summary.copy()))?,
-            None => copied.push(None)?,
-        }
-    }
-    Ok(copied)
-}
-
-/// Returns equal rows.
-pub fn copied_rows<A: Allocator + Copy>(
-    alloc: A,
-    rows: &[Vec<Option<Summary>, A>],
-) -> Result<Vec<Vec<Option<Summary>, A>, A>, AllocError>
-    ensures { IfOk result (λ v. AreCopies rows.now v.items) }
-{
-    let mut copied = Vec::with_capacity(alloc, rows.len())?;
-    for row in rows {
-        copied.push(copied_row(alloc, row)?)?;
-    }
-    Ok(copied)
 }

@@ -18,7 +18,7 @@ ghost use Rattle.nd_processor.specs.declared.tally.CountFault.TheVariants.{Count
 ghost use Rattle.nd_processor.specs.declared.key.ValueAt.{ValueAt as Value};
 ghost use Rattle.nd_processor.specs.declared.key.SinkKey.{SinkKey as Counted};
 
-use crate::start::{copied_items, first_tokens, no_items, points_of};
+use crate::start::{copied_items, first_requests, first_tokens, no_items, points_of};
 use crate::tally::{CountFault, Tally};
 use crate::{SinkKey, ValueAt};
 use nd_delta::{Delta, DeltaFault, LargeDelta};
@@ -67,14 +67,14 @@ impl<A: Allocator + Copy> Model for Processor<A> {
 }
 
 impl<A: Allocator + Copy> Processor<A> {
-    /// Returns a processor in the initial state of a cluster: each input's token is at epoch 0, and everything else is
-    /// empty.
+    /// Returns a processor in the initial state of a cluster: each input's token is at epoch 0, an opaque vertex that
+    /// starts with a capability holds it at the first time, and everything else is empty.
     pub fn start(alloc: A, graph: &Graph<A>) -> Result<Processor<A>, AllocError>
         ensures { IfOk result (λ p. p ≡ start_processor graph.now) }
     {
         Ok(Processor {
             records: Tally::new(alloc),
-            requests: GrowingMap::new(alloc),
+            requests: first_requests(alloc, graph)?,
             tokens: first_tokens(alloc, graph)?,
             items: no_items(alloc, graph.vertices().len())?,
             sinks: Tally::new(alloc),

@@ -1,16 +1,17 @@
 //! The lists that a processor starts with, and copies of its lists.
-ghost use Rattle.std.specs.Prelude.{◌≡◌, ◌<◌, IfOk, map, replicate};
+ghost use Rattle.std.specs.Prelude.{◌≡◌, ◌<◌, ◌≤◌, IfOk, map, replicate};
 ghost use Rattle.std.specs.FinMap.{from_entries};
 ghost use Rattle.std.specs.Ordering.{nat_cmp};
 ghost use Rattle.nd_map.specs.Counts.{none};
 ghost use Rattle.nd_graph.specs.Checked.{is_input as takes_feeds};
 ghost use Rattle.nd_processor.specs.State.{token_point as point_of};
-ghost use Rattle.nd_processor.specs.Start.{first_tokens as tokens_from};
+ghost use Rattle.nd_time.specs.Limits.{max_depth};
+ghost use Rattle.nd_processor.specs.Start.{first_tokens as tokens_from, first_requests as requests_from, first_point as first_point_of};
 
 use nd_graph::{Graph, Op};
-use nd_map::SortedMap;
+use nd_map::{GrowingMap, SortedMap};
 use nd_paths::Pointstamp;
-use nd_time::Timestamp;
+use nd_time::{MAX_DEPTH, Timestamp};
 use nd_vertex::VertexState;
 use std::alloc::{AllocError, Allocator};
 
@@ -39,6 +40,38 @@ pub(crate) fn first_tokens<A: Allocator>(
         }
     }
     Ok(tokens)
+}
+
+// Returns the first pointstamp of a vertex of this depth: epoch 0, and all counters 0.
+fn first_point(location: usize, depth: usize) -> Pointstamp
+    requires { depth ≤ max_depth }
+    ensures { result ≡ first_point_of location depth }
+{
+    let zeros = [0; MAX_DEPTH];
+    Pointstamp {
+        location,
+        time: Timestamp::new(0, &zeros[..depth]).unwrap(),
+    }
+}
+
+// Returns a request at its first pointstamp for each vertex that starts with a capability.
+pub(crate) fn first_requests<A: Allocator + Copy>(
+    alloc: A,
+    graph: &Graph<A>,
+) -> Result<GrowingMap<Pointstamp, (), A>, AllocError>
+    ensures { IfOk result (λ m. from_entries m ≡ requests_from 0 graph.now.vertices) }
+{
+    let vertices = graph.vertices();
+    let depths = graph.depths();
+    let mut requests = GrowingMap::new(alloc);
+    let mut l = vertices.len();
+    while l > 0 {
+        l -= 1;
+        if vertices[l].op.starts() {
+            requests.put(&first_point(l, depths[l]), ())?;
+        }
+    }
+    Ok(requests)
 }
 
 // Returns an empty state for each of `n` vertices.

@@ -91,6 +91,20 @@ along g o a in_graph t f =
           not_itself t.counters (subst (λ c. IsSmallerAtFirstDifference t.counters c) (sym counters) (o.accepted.strict a.from a [] t.counters round f.depth)),
     )
 
+-- along an arc that leaves times as they are, to any time at or after
+pub along_later : (g : Dataflow) → IsOrdered g → (a : Arc) → Contains (arcs g) a → a.action ≡ Identity → (t to : Time) → IsAtOrBefore t to → Fits g (point_at a.from t) → IsStrictlyBefore g (point_at a.from t) (point_at a.to to)
+along_later g o a in_graph plain t to before f =
+    let step : IsStrictlyBefore g (point_at a.from t) (point_at a.to t) = subst (λ c. IsStrictlyBefore g (point_at a.from t) (point_at a.to (past c t))) plain (along g o a in_graph t f) in (
+      record {
+        fits_s = f;
+        fits_t = record { depth = subst (HasDepth g a.to) before.depth step.0.fits_t.depth };
+        walk = a ∷ [];
+        leads = (in_graph, refl, refl);
+        before = subst (λ c. IsAtOrBefore (past c t) to) (sym plain) before;
+      },
+      λ e. step.1 (ap (λ x. point_at x.location t) e),
+    )
+
 -- the same location at a later time
 pub later_time : (g : Dataflow) (l : ℕ) (t to : Time) → IsAtOrBefore t to → t ≢ to → Fits g (point_at l t) → IsStrictlyBefore g (point_at l t) (point_at l to)
 later_time g l t to before other f =

@@ -30,14 +30,14 @@ sum_at at (c ∷ cs) x = at c x +ℤ sum_at at cs x
 pub record Reading (P C : Type 0) : Type 0 where
   pub n : ℕ  -- processors
   pub truth : P → ℕ
-  pub tokens : ℕ → P → ℕ  -- the tokens that a processor holds at a point; they count in the truth
+  pub supports : ℕ → P → ℕ  -- how much a processor holds at a point that supports what is strictly after it; it counts in the truth
   pub view : ℕ → C
   pub unsent : ℕ → C
   pub queue : ℕ → ℕ → List C  -- from, to
 
--- the processor holds a token at the point
+-- the processor holds such a support at the point
 abbrev pub IsHeld : {P C : Type 0} → Reading P C → ℕ → P → Type 0
-IsHeld r p y = 0 < r.tokens p y
+IsHeld r p y = 0 < r.supports p y
 
 module _ {P C : Type 0} (R : P → P → Type 0) (at : C → P → ℤ) where
   -- what q has not yet received from p, after k more changes are received
@@ -51,7 +51,7 @@ module _ {P C : Type 0} (R : P → P → Type 0) (at : C → P → ℤ) where
   pub record IsSound (r : Reading P C) : Type 0 where
     pub balance : IsBalanced r
     pub upright : (p q k : ℕ) → p < r.n → q < r.n → k ≤ length (r.queue p q) → IsUpright R (IsHeld r p) (pending r p q k)
-    pub counted : (p : ℕ) → p < r.n → (x : P) → r.tokens p x ≤ r.truth x
+    pub counted : (p : ℕ) → p < r.n → (x : P) → r.supports p x ≤ r.truth x
 
   -- p executes a step: d is what it adds to the truth, and becomes unsent
   pub record Adds (p : ℕ) (d : P → ℤ) (r s : Reading P C) : Type 0 where
@@ -68,15 +68,15 @@ module _ {P C : Type 0} (R : P → P → Type 0) (at : C → P → ℤ) where
     pub adds : Adds p d r s
     pub justified : IsUpright R (IsHeld r p) d
     pub moved : (x : P) → IsHeld r p x → IsHeld s p x ⊎ (d x <ℤ pos 0)
-    pub counted : (k : ℕ) → k < r.n → (x : P) → s.tokens k x ≤ s.truth x
-    pub others : (k : ℕ) → k ≢ p → (x : P) → s.tokens k x ≡ r.tokens k x
+    pub counted : (k : ℕ) → k < r.n → (x : P) → s.supports k x ≤ s.truth x
+    pub others : (k : ℕ) → k ≢ p → (x : P) → s.supports k x ≡ r.supports k x
 
   -- p sends c, a part of what is unsent, to all processors; what stays is upright
   pub record Broadcasts (p : ℕ) (c : C) (r s : Reading P C) : Type 0 where
     pub here : p < r.n
     pub n : s.n ≡ r.n
     pub truth : (x : P) → s.truth x ≡ r.truth x
-    pub tokens : (k : ℕ) (x : P) → s.tokens k x ≡ r.tokens k x
+    pub supports : (k : ℕ) (x : P) → s.supports k x ≡ r.supports k x
     pub unsent : (x : P) → at (r.unsent p) x ≡ (at c x +ℤ at (s.unsent p) x)
     pub stays : IsUpright R (IsHeld r p) (at (s.unsent p))
     pub unsent_others : (k : ℕ) → k ≢ p → s.unsent k ≡ r.unsent k
@@ -90,7 +90,7 @@ module _ {P C : Type 0} (R : P → P → Type 0) (at : C → P → ℤ) where
     pub to_here : q < r.n
     pub n : s.n ≡ r.n
     pub truth : (x : P) → s.truth x ≡ r.truth x
-    pub tokens : (k : ℕ) (x : P) → s.tokens k x ≡ r.tokens k x
+    pub supports : (k : ℕ) (x : P) → s.supports k x ≡ r.supports k x
     pub unsent : (k : ℕ) → s.unsent k ≡ r.unsent k
     pub view : (x : P) → at (s.view q) x ≡ (at (r.view q) x +ℤ at c x)
     pub view_others : (k : ℕ) → k ≢ q → s.view k ≡ r.view k
@@ -109,4 +109,4 @@ module _ {P C : Type 0} (R : P → P → Type 0) (at : C → P → ℤ) where
     pub view : (q : ℕ) → q < r.n → (x : P) → at (r.view q) x ≡ pos (r.truth x)
     pub unsent : (p : ℕ) → p < r.n → (x : P) → at (r.unsent p) x ≡ pos 0
     pub queue : (p q : ℕ) → p < r.n → q < r.n → r.queue p q ≡ []
-    pub counted : (p : ℕ) → p < r.n → (x : P) → r.tokens p x ≤ r.truth x
+    pub counted : (p : ℕ) → p < r.n → (x : P) → r.supports p x ≤ r.truth x

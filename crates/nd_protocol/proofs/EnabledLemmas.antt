@@ -1,5 +1,6 @@
 -- What an enabled step finds; and that it leads from a state to a state.
 use Rattle.std.proofs.Common.{◌≡◌, ◌⊎◌, inl, inr, ℕ, ℤ, pos, List, zero, suc, ◌<◌, ◌≤◌, length, Bool, true, false, cond, Option, Some, None, refl, sym, subst, arith}
+use Rattle.std.proofs.lemmas.Bool.{true_from_ne_false}
 use Rattle.std.proofs.lemmas.List.{get_or_default}
 use Rattle.std.specs.Prelude.{All}
 use Rattle.std.specs.FinMap as fin
@@ -12,19 +13,20 @@ use Rattle.nd_protocol.specs.declared.part.Part.{Part}
 use Rattle.nd_protocol.specs.declared.part.Part.TheVariants.{All as Whole, Points}
 use Rattle.nd_protocol.specs.Steps.{chosen, epoch_of, take_outcome, stepped}
 use Rattle.nd_protocol.specs.Fitting.{ProcessorIsWithin, IsWithinLimits, IsState}
-use Rattle.nd_protocol.specs.Enabled.{HasLargeCount, of_record, of_sink, HasLargeEntry, of_unsent, of_view, GoesBack, IsEnabled}
+use Rattle.nd_protocol.specs.Enabled.{HasLargeCount, of_record, of_sink, HasLargeEntry, of_unsent, of_view, GoesBack, HoldsNone, SendsFromNone, IsEnabled}
 use Rattle.nd_protocol.specs.declared.step.Step.{Step}
-use Rattle.nd_protocol.specs.declared.step.Step.TheVariants.{Feed, Take, Notice, Release, Broadcast, Receive}
+use Rattle.nd_protocol.specs.declared.step.Step.TheVariants.{Feed, Take, Notice, Release, Send, Broadcast, Receive}
 use Rattle.nd_protocol.specs.declared.step.Next.{Next as Afterwards}
 use Rattle.nd_protocol.specs.declared.step.Next.TheVariants.{Next, Close, Stay, To}
 use Rattle.nd_protocol.specs.declared.times.Times.{Times}
+use Rattle.nd_protocol.specs.declared.batch.Batch.{Batch}
 use Rattle.nd_protocol.specs.Ranges.{NextIsSmall}
 use Rattle.nd_time.specs.Time.{Time, last_of}
 use Rattle.nd_protocol.specs.declared.refusal.Refusal.TheVariants.{NoProcessor, InputClosed, EpochFull, NoRecord, NoRequest, CounterFull, ValueRange, CountFull, DeltaFull, QueueFull, NotLater}
 use Rattle.nd_protocol.proofs.Arcs.{IsTransitive}
-use Rattle.nd_protocol.proofs.Shape.{Work, feeding, taking, noticing, releasing, GoesOn, IsPossible, done}
+use Rattle.nd_protocol.proofs.Shape.{Work, feeding, taking, noticing, releasing, sending, GoesOn, IsPossible, done}
 use Rattle.nd_protocol.proofs.StepsLemmas.{many_stepped}
-use Rattle.nd_protocol.proofs.Ranges.{below_unless, in_range_unless}
+use Rattle.nd_protocol.proofs.Ranges.{below_unless, in_range_unless, batch_time_small}
 use Rattle.nd_protocol.proofs.Fitness.{keys_fit}
 use Rattle.nd_protocol.proofs.Exchanges.{sent_state, received_state}
 use Rattle.nd_map.specs.Cases.{at_least}
@@ -79,8 +81,21 @@ module _ {A : Type 0} (s : ClusterState) where
     pub release_possible : IsPossible s (releasing p vertex times)
     release_possible = record {
       performer_is = below_unless p (length s.processors) (enabled.free NoProcessor);
-      finds = here_unless _ (λ none. enabled.free NoRequest (inr none));
-      numbers = (enabled.admissible, enabled.numbers.1);
+      finds = here_unless _ (λ none. enabled.free NoRequest (inl (HoldsNone.at_this_time none)));
+      numbers = (enabled.admissible, enabled.numbers.1, λ kept. true_from_ne_false _ (λ none. enabled.free NoRequest (inr (kept, none))));
+    }
+
+  module _ (p vertex : ℕ) (batch : Batch A) (enabled : IsEnabled s (Send p vertex batch)) where
+    pub send_possible : IsPossible s (sending p vertex batch)
+    send_possible = record {
+      performer_is = below_unless p (length s.processors) (λ le. enabled.free NoProcessor (inl le));
+      finds = here_unless _ (λ none. enabled.free NoRequest (SendsFromNone.at_this_time none));
+      numbers = (
+        true_from_ne_false _ (λ none. enabled.free NoRequest (SendsFromNone.by_operator none)),
+        enabled.admissible,
+        batch_time_small batch enabled.numbers.1,
+        enabled.numbers.1.values,
+      );
     }
 
   module _ (p : ℕ) (part : Part A) (enabled : IsEnabled {A = A} s (Broadcast p part)) where
@@ -144,6 +159,8 @@ state_kept trans s (Notice p vertex t) state enabled =
     work_state trans s (noticing p vertex t) (enabled.free CountFull) (enabled.free DeltaFull) state (notice_possible s p vertex t enabled)
 state_kept trans s (Release p vertex times) state enabled =
     work_state trans s (releasing p vertex times) (enabled.free CountFull) (enabled.free DeltaFull) state (release_possible s p vertex times enabled)
+state_kept trans s (Send p vertex batch) state enabled =
+    work_state trans s (sending p vertex batch) (enabled.free CountFull) (enabled.free DeltaFull) state (send_possible s p vertex batch enabled)
 state_kept trans s (Broadcast p part) state enabled =
     sent_state s p (chosen part (processor s p).unsent) state (sender_below s p part enabled) (chosen_is_part part (processor s p).unsent) (room s p part enabled)
 state_kept trans s (Receive from to) state enabled =

@@ -11,11 +11,11 @@ use Rattle.std.proofs.Math.ListN.{get_or-map}
 use Rattle.nd_paths.specs.Order.{IsStrictlyBefore}
 use Rattle.nd_delta.specs.Delta.{DeltaValue, none, at, plus, minus, at-plus, at-minus}
 use Rattle.nd_delta.specs.Upright.{IsUpright}
-use Rattle.nd_processor.specs.State.{ProcessorState, idle, in_tokens}
+use Rattle.nd_processor.specs.State.{ProcessorState, idle}
 use Rattle.nd_protocol.specs.State.{ClusterState, processor, view, queue}
 use Rattle.nd_protocol.specs.Exchange.{IsPart, StaysUpright, sent, received_from, received}
 use Rattle.nd_protocol.specs.Fitting.{DeltaFits, ProcessorFits, KeysFit, DeltaIsWithin, ProcessorIsWithin, QueueIsWithin, IsState}
-use Rattle.nd_protocol.specs.Invariant.{HoldsToken}
+use Rattle.nd_protocol.specs.Invariant.{supporting, Supports}
 use Rattle.nd_protocol.proofs.Core.{Broadcasts, Receives}
 use Rattle.nd_protocol.proofs.Reading.{reading}
 use Rattle.nd_protocol.proofs.Counts.{count-set_same, kept-set}
@@ -52,12 +52,12 @@ module _ (s : ClusterState) (p : ℕ) (here : p < length s.processors) (fits : K
       here = here;
       n = length-set s.processors p _;
       truth = λ x. count-set_same s.processors p (record (processor s p) { unsent = minus (processor s p).unsent c }) x refl;
-      tokens = λ k x. ap (λ m. in_tokens m x) (kept-set (λ q. q.tokens) s.processors p (record (processor s p) { unsent = minus (processor s p).unsent c }) refl k);
+      supports = λ k x. kept-set (λ q. supporting s.graph q x) s.processors p (record (processor s p) { unsent = minus (processor s p).unsent c }) refl k;
       unsent = λ x.
           let now = ap (λ d. at d x) unsent_here in
           let less = at-minus (processor s p).unsent c x in
           omega (arith, ints);
-      stays = subst (λ d. IsUpright (IsStrictlyBefore s.graph) (HoldsToken (processor s p)) (at d)) (sym unsent_here) stays;
+      stays = subst (λ d. IsUpright (IsStrictlyBefore s.graph) (Supports s.graph (processor s p)) (at d)) (sym unsent_here) stays;
       unsent_others = λ k other. ap (λ (q : ProcessorState). q.unsent) (get_or-set_other s.processors p k _ idle other);
       view = λ q. refl;
       queue = queue_here;
@@ -86,7 +86,7 @@ module _ (s : ClusterState) (p : ℕ) (here : p < length s.processors) (fits : K
       to_here = there;
       n = refl;
       truth = λ x. refl;
-      tokens = λ k x. refl;
+      supports = λ k x. refl;
       unsent = λ k. refl;
       view = λ x. ap (λ v. at v x) (get_or-set_same s.views q (plus (view s q) c) none (subst (λ n. q < n) (sym fits.each_view) there)) ∙ at-plus (view s q) c x;
       view_others = λ k other. get_or-set_other s.views q k (plus (view s q) c) none other;

@@ -1,5 +1,5 @@
 -- A feed: the token is the cause of the records and of the token at the next epoch. If the token stays, it supports the records.
-use Rattle.std.proofs.Common.{◌≡◌, ◌⊎◌, inl, inr, ℕ, ◌+◌, ◌<◌, ◌≤◌, ℤ, List, [], length, get_or, Option, Some, unwrap_or, refl, sym, ap, subst, ◌∙◌, arith}
+use Rattle.std.proofs.Common.{◌≡◌, ◌⊎◌, inl, inr, ℕ, ◌+◌, ◌<◌, ◌≤◌, ℤ, List, [], length, get_or, Option, Some, unwrap_or, sym, ap, subst, ◌∙◌, arith}
 use Rattle.std.specs.FinMap as fin
 use Rattle.std.specs.Ordering.{nat_cmp}
 use Rattle.nd_graph.specs.Graph.{Dataflow}
@@ -30,14 +30,14 @@ given_up : (m : fin.FinMap nat_cmp ℕ) (v e : ℕ) (x : Pointstamp) → fin.get
 given_up m v e x found = ap (λ d. in_tokens (fin.remove m v) x + token_at v d x) (sym found) ∙ in_tokens-remove m v x
 
 -- what moving a token does to the number of tokens
-record IsMoved (g : Dataflow) (next : Afterwards) (m n : fin.FinMap nat_cmp ℕ) (y : Pointstamp) : Type 0 where
+record IsMoved (g : Dataflow) (m n : fin.FinMap nat_cmp ℕ) (y : Pointstamp) : Type 0 where
   grows : (z : Pointstamp) → IsStrictlyBefore g y z ⊎ (in_tokens n z ≤ in_tokens m z)
-  goes : (in_tokens n y < in_tokens m y) ⊎ ((next ≡ Stay) × (0 < in_tokens m y) × (0 < in_tokens n y))
-  others : (z : Pointstamp) → 0 < in_tokens m z → (0 < in_tokens n z) ⊎ ((z ≡ y) × (in_tokens n y < in_tokens m y))
+  goes : (in_tokens n y < in_tokens m y) ⊎ (0 < in_tokens m y)
+  others : (z : Pointstamp) → (in_tokens m z ≤ in_tokens n z) ⊎ ((z ≡ y) × (in_tokens n y < in_tokens m y))
 
 -- a move to a later epoch
-moves_to : (g : Dataflow) (next : Afterwards) (m : fin.FinMap nat_cmp ℕ) (vertex epoch to : ℕ) → fin.get m vertex ≡ Some epoch → Fits g (token_point vertex epoch) → epoch < to → IsMoved g next m (fin.insert m vertex to) (token_point vertex epoch)
-moves_to g next m vertex epoch to found fits more =
+moves_to : (g : Dataflow) (m : fin.FinMap nat_cmp ℕ) (vertex epoch to : ℕ) → fin.get m vertex ≡ Some epoch → Fits g (token_point vertex epoch) → epoch < to → IsMoved g m (fin.insert m vertex to) (token_point vertex epoch)
+moves_to g m vertex epoch to found fits more =
     let y : Pointstamp = token_point vertex epoch in
     let w : Pointstamp = token_point vertex to in
     let n : fin.FinMap nat_cmp ℕ = fin.insert m vertex to in
@@ -47,12 +47,12 @@ moves_to g next m vertex epoch to found fits more =
     record {
       grows = λ z. elim (point_cases z w) [ inl same ↦ inl (subst (λ v. IsStrictlyBefore g y v) (sym same) later) | inr apart ↦ inr (omega (arith, sum z)) ];
       goes = inl less;
-      others = λ z h. elim (point_cases z y) [ inl same ↦ inr (same, less) | inr apart ↦ inl (omega (arith, sum z)) ];
+      others = λ z. elim (point_cases z y) [ inl same ↦ inr (same, less) | inr apart ↦ inl (omega (arith, sum z)) ];
     }
 
-token_moves : (g : Dataflow) (m : fin.FinMap nat_cmp ℕ) (vertex epoch : ℕ) → fin.get m vertex ≡ Some epoch → Fits g (token_point vertex epoch) → (next : Afterwards) → GoesOn next epoch → IsMoved g next m (moved_token m vertex epoch next) (token_point vertex epoch)
-token_moves g m vertex epoch found fits Next on = moves_to g Next m vertex epoch (epoch + 1) found fits (omega arith)
-token_moves g m vertex epoch found fits (To n) on = moves_to g (To n) m vertex epoch n found fits on.0
+token_moves : (g : Dataflow) (m : fin.FinMap nat_cmp ℕ) (vertex epoch : ℕ) → fin.get m vertex ≡ Some epoch → Fits g (token_point vertex epoch) → (next : Afterwards) → GoesOn next epoch → IsMoved g m (moved_token m vertex epoch next) (token_point vertex epoch)
+token_moves g m vertex epoch found fits Next on = moves_to g m vertex epoch (epoch + 1) found fits (omega arith)
+token_moves g m vertex epoch found fits (To n) on = moves_to g m vertex epoch n found fits on.0
 token_moves g m vertex epoch found fits Close on =
     let y : Pointstamp = token_point vertex epoch in
     let sum : (z : Pointstamp) → in_tokens (fin.remove m vertex) z + one_at y z ≡ in_tokens m z = λ z. given_up m vertex epoch z found in
@@ -60,16 +60,15 @@ token_moves g m vertex epoch found fits Close on =
     record {
       grows = λ z. inr (omega (arith, sum z));
       goes = inl less;
-      others = λ z h. elim (point_cases z y) [ inl same ↦ inr (same, less) | inr apart ↦ inl (omega (arith, sum z)) ];
+      others = λ z. elim (point_cases z y) [ inl same ↦ inr (same, less) | inr apart ↦ inl (omega (arith, sum z)) ];
     }
 token_moves g m vertex epoch found fits Stay on =
     let y : Pointstamp = token_point vertex epoch in
     let sum : in_tokens (fin.remove m vertex) y + one_at y y ≡ in_tokens m y = given_up m vertex epoch y found in
-    let held_here : 0 < in_tokens m y = omega (arith, one_at_itself y) in
     record {
       grows = λ z. inr (omega arith);
-      goes = inr (refl, held_here, held_here);
-      others = λ z h. inl h;
+      goes = inr (omega (arith, sum, one_at_itself y));
+      others = λ z. inl (omega arith);
     }
 
 pub feed_cause : (s : ClusterState) → IsOrdered s.graph → (p vertex epoch : ℕ) (values : List ℤ) (next : Afterwards) → fin.get (processor s p).tokens vertex ≡ Some epoch → FitsTypes s (feeding p vertex values next) → ProcessorFits s.graph (processor s p) → HasCause s (feeding p vertex values next)
@@ -86,7 +85,7 @@ feed_cause s o p vertex e values next found numbers fit =
     let past : TimeIsSmall (time_past (op_at g vertex) (flat epoch)) = input_past (op_at g vertex) (flat epoch) held.0 small in
     let y : Pointstamp = token_point vertex epoch in
     let r : ProcessorState = record q { tokens = moved_token q.tokens vertex epoch next } in
-    let moved : IsMoved g next q.tokens (moved_token q.tokens vertex epoch next) y = token_moves g q.tokens vertex epoch found_here fits_here next numbers.1 in
+    let moved : IsMoved g q.tokens (moved_token q.tokens vertex epoch next) y = token_moves g q.tokens vertex epoch found_here fits_here next numbers.1 in
     record {
       fits = fed_fits g q vertex epoch found_here next numbers.1 fit;
       edges = AllAt-flat (λ z. length g.vertices ≤ z.location) (λ v. emitted g (length s.processors) p vertex (flat epoch) (0, v)) (λ v. emitted_on_edges g (length s.processors) p vertex (flat epoch) (0, v)) values;
@@ -95,6 +94,6 @@ feed_cause s o p vertex e values next found numbers fit =
       cause = y;
       later = AllAt-flat (IsStrictlyBefore g y) (λ v. emitted g (length s.processors) p vertex (flat epoch) (0, v)) (λ v. emitted_later g o (length s.processors) p vertex (flat epoch) fits_here (0, v)) values;
       grows = λ z. elim (moved.grows z) [ inl later ↦ inl later | inr le ↦ inr (omega arith) ];
-      goes = elim moved.goes [ inl less ↦ inl (omega arith) | inr both ↦ inr both ];
-      tokens = λ z h. elim (moved.others z h) [ inl still ↦ inl still | inr (is, less) ↦ inr (is, omega arith) ];
+      goes = elim moved.goes [ inl less ↦ inl (omega arith) | inr there ↦ inr (omega arith) ];
+      supports = λ z h. elim (moved.others z) [ inl le ↦ inl (omega arith) | inr (is, less) ↦ inr (is, omega arith) ];
     }

@@ -40,7 +40,7 @@ flat_at (v ∷ vs) rest (suc l) right is = flat_at vs rest l (or_parts (is_mispl
 pub inputs_flat : (g : Dataflow) → IsFaultless g → AreInputsFlat g
 unfolding fault_of has_depth_mismatch
 inputs_flat g sound l is =
-    let agree : has_depth_mismatch g ≡ false = second_none (list_any (has_bad_port g.vertices) g.edges) (has_depth_mismatch g) (is_too_large max_depth g) sound.faultless in
+    let agree : has_depth_mismatch g ≡ false = second_none (list_any (has_bad_port g.vertices) g.edges) (has_depth_mismatch g) (is_too_large max_depth max_locations g) sound.faultless in
     flat_at g.vertices (map (λ e. depth_past_vertex g.vertices e.from) g.edges) l (or_parts (list_any is_misplaced g.vertices) (list_any (misses_depth g.vertices) g.edges) agree).0 is
 
 not_more : (m n : ℕ) → nat_lt m n ≡ false → n ≤ m
@@ -50,5 +50,5 @@ not_more m n e = grind (arith, nat_tests, e)
 pub few_locations : (g : Dataflow) → IsFaultless g → location_count g ≤ max_locations
 unfolding fault_of is_too_large
 few_locations g sound =
-    let small : is_too_large max_depth g ≡ false = third_none (list_any (has_bad_port g.vertices) g.edges) (has_depth_mismatch g) (is_too_large max_depth g) sound.faultless in
+    let small : is_too_large max_depth max_locations g ≡ false = third_none (list_any (has_bad_port g.vertices) g.edges) (has_depth_mismatch g) (is_too_large max_depth max_locations g) sound.faultless in
     not_more max_locations (location_count g) (or_parts (nat_lt max_locations (location_count g)) (list_any (is_too_deep max_depth) g.vertices || list_any (leads_too_deep max_depth g.vertices) g.edges) small).0

@@ -1,9 +1,8 @@
 -- What the protocol invariant says to a reader of a view.
-use Rattle.std.proofs.Common.{◌≡◌, ℕ, ◌+◌, ◌<◌, ◌≤◌, ◌≤ℤ◌, ◌<ℤ◌, pos, length, Some, sym, ap, subst, ◌∙◌, arith}
+use Rattle.std.proofs.Common.{◌≡◌, ℕ, ◌<◌, ◌≤◌, ◌≤ℤ◌, ◌<ℤ◌, pos, length, Some, sym, ap, subst, ◌∙◌, arith}
 use Rattle.std.proofs.lemmas.List.Sums.{get_or-le-sum_by}
 use Rattle.std.specs.FinMap as fin
-use Rattle.nd_processor.specs.State.{idle, held as held_at, in_requests, one_at}
-use Rattle.nd_processor.specs.HeldLaws.{one_at_itself, in_requests-remove}
+use Rattle.nd_processor.specs.State.{idle, held as held_at, in_requests}
 use Rattle.std.proofs.lemmas.Int.{ints, by_lt_z}
 use Rattle.nd_graph.specs.Graph.{Dataflow}
 use Rattle.nd_paths.specs.Order.{CouldResultIn, IsStrictlyBefore}
@@ -18,6 +17,7 @@ use Rattle.nd_protocol.proofs.Reading.{reading}
 use Rattle.nd_protocol.proofs.Arcs.{IsTransitive, CouldIsTransitive, strict_order}
 use Rattle.nd_protocol.proofs.Counts.{count, truth-count}
 use Rattle.nd_protocol.proofs.Readings.{change_finite, sound_of}
+use Rattle.nd_protocol.proofs.Requests.{request_counts}
 use Rattle.nd_protocol.proofs.Safety.{safe, stays}
 
 could_down : CouldIsTransitive → (g : Dataflow) (t : Pointstamp) → IsDownward (IsStrictlyBefore g) (λ x. CouldResultIn g x t)
@@ -41,8 +41,8 @@ held trans could s o keeps p q here there x t found before is_passed =
     let none : at (truth s.processors) x ≡ pos 0 = passed trans could s o keeps q there t is_passed x before in
     let counts : at (truth s.processors) x ≡ pos (count s.processors x) = truth-count s.processors x in
     let part : held_at (processor s p) x ≤ count s.processors x = get_or-le-sum_by (λ q. held_at q x) s.processors p idle here in
-    let one : in_requests (fin.remove (processor s p).requests x) x + one_at x x ≡ in_requests (processor s p).requests x = in_requests-remove (processor s p).requests x x found in
-    absurd (omega (arith, ints, one_at_itself x))
+    let one : 0 < in_requests (processor s p).requests x = request_counts (processor s p).requests x found in
+    absurd (omega (arith, ints))
 
 pub last : IsTransitive → (s : ClusterState) → IsOrdered s.graph → KeepsProtocol s → (q : ℕ) → q < length s.processors → (t : Pointstamp) → ((x : Pointstamp) → IsPrecursor s.graph (view s q) t x → ⊥) → (x : Pointstamp) → IsStrictlyBefore s.graph x t → at (truth s.processors) x ≡ pos 0
 last trans s o keeps q lt t none x before =

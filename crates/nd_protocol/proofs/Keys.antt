@@ -32,8 +32,8 @@ use Rattle.nd_protocol.specs.declared.step.Next.{Next as Afterwards}
 use Rattle.nd_protocol.specs.declared.step.Next.TheVariants.{Next, Close, Stay, To}
 use Rattle.nd_protocol.specs.Ranges.{IsSmall, TimesAreSmall, IsValue}
 use Rattle.nd_protocol.specs.Times.{GoesLater}
+use Rattle.nd_protocol.specs.declared.times.Later.{Later}
 use Rattle.nd_protocol.proofs.Shape.{GoesOn}
-use Rattle.nd_time.specs.Limits.{max_counter}
 use Rattle.std.proofs.lemmas.List.Elements.{All-nil, All-cons}
 use Rattle.nd_protocol.specs.Fitting.{IsOrdered, IsAtVertex, IsAtEdge, ProcessorFits}
 use Rattle.std.proofs.lemmas.Bool.{cases_eq}
@@ -239,19 +239,23 @@ fed_fits g q vertex epoch here next room fit = record {
 }
 
 -- the location of a request does not depend on the time
-other_time : (g : Dataflow) (vertex : ℕ) (t to : Time) → GoesLater t (Some to) → TimesAreSmall t (Some to) → IsAtVertex g (point_at vertex t) → IsAtVertex g (point_at vertex to)
+other_time : (g : Dataflow) (vertex : ℕ) (t : Time) (to : Later) → GoesLater t (Some to) → TimesAreSmall t (Some to) → IsAtVertex g (point_at vertex t) → IsAtVertex g (point_at vertex to.time)
 other_time g vertex t to later small h = record { place = h.place; fits = record { depth = subst (HasDepth g vertex) later.0.depth h.fits.depth }; small = small.1 }
 
-request_moved : (g : Dataflow) (m : Requests) (vertex : ℕ) (t : Time) (to : Option Time) → GoesLater t to → TimesAreSmall t to → IsAtVertex g (point_at vertex t)
+kept_or_removed : (keep : Bool) (m : Requests) (k z : Pointstamp) → fin.get (cond keep m (fin.remove m k)) z ≡ Some tt → fin.get m z ≡ Some tt
+kept_or_removed true m k z found = found
+kept_or_removed false m k z found = removed_is point_total point_exact m k z tt found
+
+request_moved : (g : Dataflow) (m : Requests) (vertex : ℕ) (t : Time) (to : Option Later) → GoesLater t to → TimesAreSmall t to → IsAtVertex g (point_at vertex t)
     → ((z : Pointstamp) → fin.get m z ≡ Some tt → IsAtVertex g z) → (z : Pointstamp) → fin.get (moved_request m vertex t to) z ≡ Some tt → IsAtVertex g z
 request_moved g m vertex t None later small place old z found = old z (removed_is point_total point_exact m (point_at vertex t) z tt found)
 request_moved g m vertex t (Some to) later small place old z found =
-    elim (inserted_is point_total point_exact (fin.remove m (point_at vertex t)) (point_at vertex to) tt z tt found) [
+    elim (inserted_is point_total point_exact (cond to.keep m (fin.remove m (point_at vertex t))) (point_at vertex to.time) tt z tt found) [
       | inl (same, is) ↦ subst (IsAtVertex g) (sym same) (other_time g vertex t to later small place)
-      | inr there ↦ old z (removed_is point_total point_exact m (point_at vertex t) z tt there)
+      | inr there ↦ old z (kept_or_removed to.keep m (point_at vertex t) z there)
     ]
 
-pub released_fits : (g : Dataflow) (q : ProcessorState) (vertex : ℕ) (t : Time) (to : Option Time) → GoesLater t to → TimesAreSmall t to → IsAtVertex g (point_at vertex t) → ProcessorFits g q
+pub released_fits : (g : Dataflow) (q : ProcessorState) (vertex : ℕ) (t : Time) (to : Option Later) → GoesLater t to → TimesAreSmall t to → IsAtVertex g (point_at vertex t) → ProcessorFits g q
     → ProcessorFits g (record q { requests = moved_request q.requests vertex t to })
 released_fits g q vertex t to later small place fit = record {
   records = fit.records;

@@ -9,6 +9,7 @@ pub mod Counts
 pub mod Emissions
 pub mod Causes
 pub mod Requests
+pub mod Supports
 pub mod Keys
 pub mod Ranges
 pub mod Takes
@@ -23,6 +24,9 @@ pub mod Starts
 pub mod InvariantLemmas
 pub mod Notices
 pub mod Releases
+pub mod Sends
+pub mod Sent
+pub mod SendLaws
 pub mod Runs
 pub mod Bounds
 pub mod Exchanges

@@ -155,7 +155,7 @@ module _ {P C : Type 0} (R : P → P → Type 0) (o : IsStrictOrder R) (at : C �
   -- ---- p sends c to all processors
   module _ (p : ℕ) (c : C) (r s : Reading P C) (step : Broadcasts R at p c r s) where
     sent_same_held : (j : ℕ) (y : P) → IsHeld r j y → IsHeld s j y
-    sent_same_held j y held = subst (λ v. 0 < v) (sym (step.tokens j y)) held
+    sent_same_held j y held = subst (λ v. 0 < v) (sym (step.supports j y)) held
 
     sent_here : (q k : ℕ) → q < r.n → k ≤ length (r.queue p q) → (x : P) → pending R at s p q k x ≡ pending R at r p q k x
     sent_here q k h le x =
@@ -206,13 +206,13 @@ module _ {P C : Type 0} (R : P → P → Type 0) (o : IsStrictOrder R) (at : C �
     sent sound = record {
       balance = sent_balanced sound.balance;
       upright = λ j q k l h le. sent_upright sound j q k (subst (λ v. j < v) step.n l) (subst (λ v. q < v) step.n h) le;
-      counted = λ j l x. rw (step.tokens j x, step.truth x) (sound.counted j (subst (λ v. j < v) step.n l) x);
+      counted = λ j l x. rw (step.supports j x, step.truth x) (sound.counted j (subst (λ v. j < v) step.n l) x);
     }
 
   -- ---- q receives the front of the queue from p
   module _ (p q : ℕ) (c : C) (r s : Reading P C) (step : Receives R at p q c r s) where
     taken_same_held : (j : ℕ) (y : P) → IsHeld r j y → IsHeld s j y
-    taken_same_held j y held = subst (λ v. 0 < v) (sym (step.tokens j y)) held
+    taken_same_held j y held = subst (λ v. 0 < v) (sym (step.supports j y)) held
 
     taken_here : (k : ℕ) (x : P) → pending R at s p q k x ≡ pending R at r p q (suc k) x
     taken_here k x = rw (step.queue, step.unsent p) refl
@@ -259,7 +259,7 @@ module _ {P C : Type 0} (R : P → P → Type 0) (o : IsStrictOrder R) (at : C �
     taken sound = record {
       balance = taken_balanced sound.balance;
       upright = λ j l k jl ll le. taken_upright sound j l k (subst (λ v. j < v) step.n jl) (subst (λ v. l < v) step.n ll) le;
-      counted = λ j l x. rw (step.tokens j x, step.truth x) (sound.counted j (subst (λ v. j < v) step.n l) x);
+      counted = λ j l x. rw (step.supports j x, step.truth x) (sound.counted j (subst (λ v. j < v) step.n l) x);
     }
 
   -- ---- any step, and any run

@@ -2,7 +2,7 @@
 use Rattle.std.proofs.Common.{◌≡◌, ◌≢◌, ◌⊎◌, inl, inr, ℕ, zero, suc, ◌+◌, ◌^◌, ◌<◌, ◌≤◌, ℤ, pos, negsuc, ◌+ℤ◌, Bool, true, false, cond, not, ◌&&◌, List, [], ◌∷◌, ◌++◌, length, refl, sym, subst, ◌∙◌, arith}
 use Rattle.std.proofs.lemmas.Bool.{cases_lt}
 use Rattle.std.proofs.lemmas.List.Elements.{All-nil, All-cons, All-push, All-head, All-tail}
-use Rattle.std.specs.Prelude.{All, nat_eq}
+use Rattle.std.specs.Prelude.{All, IfSome, Option, Some, None, nat_eq, unwrap_or}
 use Rattle.std.specs.List.{flat_map}
 use Rattle.std.specs.Ordering.{eq_by_cmp}
 use Rattle.nd_time.specs.Limits.{max_counter}
@@ -19,9 +19,10 @@ use Rattle.nd_vertex.specs.Items.{Items, item_key, item_cmp, item_total, item_ex
 use Rattle.nd_vertex.specs.Table.{Outcome, on_record, on_notice, time_past, is_zero}
 use Rattle.nd_vertex.specs.declared.key.ItemKey.{ItemKey}
 use Rattle.nd_processor.specs.declared.key.ValueAt.{ValueAt}
-use Rattle.nd_protocol.specs.Ranges.{IsSmall, TimeIsSmall, IsValue}
+use Rattle.nd_protocol.specs.Ranges.{IsSmall, TimeIsSmall, IsValue, BatchIsSmall}
 use Rattle.nd_protocol.specs.Enabled.{IsInRange}
-use Rattle.nd_protocol.specs.Steps.{destination, made_on, emitted, record_key}
+use Rattle.nd_protocol.specs.Steps.{directed, made_on, emitted, batch_time, posts, record_key}
+use Rattle.nd_protocol.specs.declared.batch.Batch.{Batch}
 use Rattle.nd_protocol.proofs.Shape.{AllKeys, IsSmallKey}
 use Rattle.nd_protocol.proofs.Keys.{set_cases}
 
@@ -88,16 +89,27 @@ AllKeys-flat K f [] h = tt
 AllKeys-flat K f (x ∷ xs) h =
     AllKeys-append K (f x) (flat_map f xs) (All-head (λ x. AllKeys K (f x)) x xs h) (AllKeys-flat K f xs (All-tail (λ x. AllKeys K (f x)) x xs h))
 
-made_small : (n p vertex port : ℕ) (v : ℤ) (t : Time) (l : ℕ) (es : List Edge) → TimeIsSmall t → IsValue v → AllKeys IsSmallKey (made_on n p vertex port v t l es)
-made_small n p vertex port v t l [] small value = tt
-made_small n p vertex port v t l (e ∷ es) small value =
-    let r : ℕ × ValueAt = (destination e.route n p v, record_key l t v) in
+made_small : (dest : Option ℕ) (n p vertex port : ℕ) (v : ℤ) (t : Time) (l : ℕ) (es : List Edge) → TimeIsSmall t → IsValue v → AllKeys IsSmallKey (made_on dest n p vertex port v t l es)
+made_small dest n p vertex port v t l [] small value = tt
+made_small dest n p vertex port v t l (e ∷ es) small value =
+    let r : ℕ × ValueAt = (directed dest e.route n p v, record_key l t v) in
     let b : Bool = nat_eq e.from vertex && nat_eq e.port port in
     let here : AllKeys IsSmallKey (cond b (r ∷ []) []) = elim b as (λ c. AllKeys IsSmallKey (cond c (r ∷ []) [])) [ true ↦ ((small, value), tt) | false ↦ tt ] in
-    AllKeys-append IsSmallKey (cond b (r ∷ []) []) (made_on n p vertex port v t (l + 1) es) here (made_small n p vertex port v t (l + 1) es small value)
+    AllKeys-append IsSmallKey (cond b (r ∷ []) []) (made_on dest n p vertex port v t (l + 1) es) here (made_small dest n p vertex port v t (l + 1) es small value)
 
 pub emitted_small : (g : Dataflow) (n p vertex : ℕ) (t : Time) (e : ℕ × ℤ) → TimeIsSmall (time_past (op_at g vertex) t) → IsValue e.1 → AllKeys IsSmallKey (emitted g n p vertex t e)
-emitted_small g n p vertex t e small value = made_small n p vertex e.0 e.1 (time_past (op_at g vertex) t) (length g.vertices) g.edges small value
+emitted_small g n p vertex t e small value = made_small None n p vertex e.0 e.1 (time_past (op_at g vertex) t) (length g.vertices) g.edges small value
+
+-- the time of the records of a batch
+pub batch_time_small : {A : Type 0} (b : Batch A) → BatchIsSmall b → TimeIsSmall (batch_time b)
+batch_time_small b small = by b.at small.at
+  where
+    by : (at : Option Time) → IfSome at TimeIsSmall → TimeIsSmall (unwrap_or at b.time)
+    by None none = small.time
+    by (Some at) some = some
+
+pub posts_small : {A : Type 0} (g : Dataflow) (n p vertex : ℕ) (b : Batch A) (v : ℤ) → TimeIsSmall (batch_time b) → IsValue v → AllKeys IsSmallKey (posts g n p vertex b v)
+posts_small g n p vertex b v small value = made_small b.dest n p vertex b.port v (batch_time b) (length g.vertices) g.edges small value
 
 -- ---- what the operators do to items
 

@@ -9,11 +9,12 @@ use Rattle.nd_paths.specs.declared.point.Pointstamp.{Pointstamp}
 use Rattle.nd_delta.specs.Delta.{DeltaValue, at, or_zero, entries, at-entries, at-none, at-plus, is_point}
 use Rattle.nd_protocol.specs.State.{ClusterState, processor, view, queue}
 use Rattle.nd_processor.specs.State.{idle, held}
-use Rattle.nd_protocol.specs.Invariant.{sum_of, total, HoldsToken, pending, IsSettled, KeepsProtocol}
+use Rattle.nd_protocol.specs.Invariant.{sum_of, total, Supports, pending, IsSettled, KeepsProtocol}
 use Rattle.nd_protocol.proofs.Core.{IsIn, IsFinite, IsBalanced, IsSound, sum_at, pending as reading_pending}
 use Rattle.nd_protocol.proofs.Reading.{reading}
 use Rattle.nd_protocol.proofs.Counts.{truth-count}
 use Rattle.nd_protocol.proofs.Preservation.{total_same}
+use Rattle.nd_protocol.proofs.Supports.{supporting_held}
 use Rattle.nd_protocol.proofs.UprightSums.{upright_same}
 
 found : (es : List (Pointstamp × ℤ)) (x : Pointstamp) → or_zero (find point_cmp x es) ≢ pos 0 → IsIn (map (λ e. e.0) es) x
@@ -36,10 +37,10 @@ at-pending : (s : ClusterState) (p q k : ℕ) (x : Pointstamp) → at (pending s
 at-pending s p q k x =
     at-plus (sum_of (drop k (queue s p q))) (processor s p).unsent x ∙ ap (λ z. z +ℤ at (processor s p).unsent x) (at-sum_of (drop k (queue s p q)) x)
 
-pub counted : (s : ClusterState) (p : ℕ) → p < length s.processors → (x : Pointstamp) → (reading s).tokens p x ≤ (reading s).truth x
+pub counted : (s : ClusterState) (p : ℕ) → p < length s.processors → (x : Pointstamp) → (reading s).supports p x ≤ (reading s).truth x
 counted s p lt x =
     let part : held (processor s p) x ≤ (reading s).truth x = get_or-le-sum_by (λ q. held q x) s.processors p idle lt in
-    omega arith
+    omega (arith, supporting_held s.graph (processor s p) x)
 
 sums_same : (s : ClusterState) (q : ℕ) (x : Pointstamp)
     → total (length s.processors) (λ p. reading_pending (IsStrictlyBefore s.graph) at (reading s) p q 0 x) ≡ total (length s.processors) (λ p. at (pending s p q 0) x)
@@ -55,7 +56,7 @@ settled_of s balanced = record { balance = λ q lt x. truth-count s.processors x
 pub sound_of : (s : ClusterState) → KeepsProtocol s → IsSound (IsStrictlyBefore s.graph) at (reading s)
 sound_of s keeps = record {
   balance = balanced_of s keeps.settled;
-  upright = λ p q k lp lq le. upright_same (IsStrictlyBefore s.graph) (HoldsToken (processor s p)) (at (pending s p q k)) (reading_pending (IsStrictlyBefore s.graph) at (reading s) p q k)
+  upright = λ p q k lp lq le. upright_same (IsStrictlyBefore s.graph) (Supports s.graph (processor s p)) (at (pending s p q k)) (reading_pending (IsStrictlyBefore s.graph) at (reading s) p q k)
       (λ x. sym (at-pending s p q k x)) (keeps.upright p q k lp lq le);
   counted = counted s;
 }
@@ -63,6 +64,6 @@ sound_of s keeps = record {
 pub keeps_of : (s : ClusterState) → IsSound (IsStrictlyBefore s.graph) at (reading s) → KeepsProtocol s
 keeps_of s sound = record {
   settled = settled_of s sound.balance;
-  upright = λ p q k lp lq le. upright_same (IsStrictlyBefore s.graph) (HoldsToken (processor s p)) (reading_pending (IsStrictlyBefore s.graph) at (reading s) p q k) (at (pending s p q k))
+  upright = λ p q k lp lq le. upright_same (IsStrictlyBefore s.graph) (Supports s.graph (processor s p)) (reading_pending (IsStrictlyBefore s.graph) at (reading s) p q k) (at (pending s p q k))
       (at-pending s p q k) (sound.upright p q k lp lq le);
 }

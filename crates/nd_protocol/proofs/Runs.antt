@@ -10,17 +10,17 @@ use Rattle.nd_protocol.specs.Fitting.{IsState}
 use Rattle.nd_protocol.specs.Invariant.{IsSettled, KeepsProtocol, IsFinished}
 use Rattle.nd_protocol.specs.Enabled.{IsEnabled, AreEnabled}
 use Rattle.nd_protocol.specs.declared.step.Step.{Step}
-use Rattle.nd_protocol.specs.declared.step.Step.TheVariants.{Feed, Take, Notice, Release, Broadcast, Receive}
+use Rattle.nd_protocol.specs.declared.step.Step.TheVariants.{Feed, Take, Notice, Release, Send, Broadcast, Receive}
 use Rattle.nd_protocol.specs.declared.refusal.Refusal.TheVariants.{QueueEmpty}
 use Rattle.nd_protocol.proofs.Arcs.{IsTransitive, CouldIsTransitive, strict_order}
 use Rattle.nd_protocol.proofs.Core.{IsSound, Steps}
 use Rattle.nd_protocol.proofs.Preservation.{sent_balanced, taken_balanced, step_kept as kept_by_step}
 use Rattle.nd_protocol.proofs.Reading.{reading}
 use Rattle.nd_protocol.proofs.Readings.{change_finite, balanced_of, settled_of, sound_of, keeps_of}
-use Rattle.nd_protocol.proofs.Shape.{Work, feeding, taking, noticing, releasing, performer, performed, IsPossible, done}
+use Rattle.nd_protocol.proofs.Shape.{Work, feeding, taking, noticing, releasing, sending, performer, performed, IsPossible, done}
 use Rattle.nd_protocol.proofs.StepsLemmas.{performs_of, settled_kept}
 use Rattle.nd_protocol.proofs.Exchanges.{broadcasts, receives}
-use Rattle.nd_protocol.proofs.EnabledLemmas.{feed_possible, take_possible, notice_possible, release_possible, sender_below, from_below, to_below, state_kept}
+use Rattle.nd_protocol.proofs.EnabledLemmas.{feed_possible, take_possible, notice_possible, release_possible, send_possible, sender_below, from_below, to_below, state_kept}
 use Rattle.nd_protocol.proofs.InvariantLemmas.{stays_finished}
 
 -- ---- one step
@@ -39,6 +39,7 @@ protocol_step trans s (Feed p vertex values next) state enabled = work_steps tra
 protocol_step trans s (Take p edge t value) state enabled = work_steps trans s (taking p edge t value) state (take_possible s p edge t value enabled)
 protocol_step trans s (Notice p vertex t) state enabled = work_steps trans s (noticing p vertex t) state (notice_possible s p vertex t enabled)
 protocol_step trans s (Release p vertex times) state enabled = work_steps trans s (releasing p vertex times) state (release_possible s p vertex times enabled)
+protocol_step trans s (Send p vertex batch) state enabled = work_steps trans s (sending p vertex batch) state (send_possible s p vertex batch enabled)
 protocol_step trans s (Broadcast p part) state enabled =
     let c : DeltaValue = chosen part (processor s p).unsent in
     inr (inl (p, c, broadcasts s p (sender_below s p part enabled) state.fits c enabled.admissible))
@@ -51,6 +52,7 @@ same_graph s (Feed p vertex values _) = refl
 same_graph s (Take p edge t value) = refl
 same_graph s (Notice p vertex t) = refl
 same_graph s (Release p vertex times) = refl
+same_graph s (Send p vertex batch) = refl
 same_graph s (Broadcast p part) = refl
 same_graph s (Receive from to) = by (queue s from to)
   where
@@ -75,6 +77,7 @@ step_settled trans s (Feed p vertex values next) state enabled settled = settled
 step_settled trans s (Take p edge t value) state enabled settled = settled_kept s (taking p edge t value) (take_possible s p edge t value enabled).performer_is settled
 step_settled trans s (Notice p vertex t) state enabled settled = settled_kept s (noticing p vertex t) (notice_possible s p vertex t enabled).performer_is settled
 step_settled trans s (Release p vertex times) state enabled settled = settled_kept s (releasing p vertex times) (release_possible s p vertex times enabled).performer_is settled
+step_settled trans s (Send p vertex batch) state enabled settled = settled_kept s (sending p vertex batch) (send_possible s p vertex batch enabled).performer_is settled
 step_settled trans s (Broadcast p part) state enabled settled =
     let c : DeltaValue = chosen part (processor s p).unsent in
     let t : ClusterState = sent s p c in

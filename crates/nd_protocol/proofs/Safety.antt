@@ -51,7 +51,7 @@ module _ {P C : Type 0} (R : P → P → Type 0) (o : IsStrictOrder R) (at : C �
               let b' : pos (r.truth z) ≡ (at (r.view q) z +ℤ coming r q z) = balanced r sound q h z in
               let v' : at (r.view q) z ≤ℤ pos 0 = quiet z dz in
               omega (arith, ints)
-          | inr (p, l, held) ↦ earlier z less (dz, (let c : r.tokens p z ≤ r.truth z = sound.counted p l z in omega arith))
+          | inr (p, l, held) ↦ earlier z less (dz, (let c : r.supports p z ≤ r.truth z = sound.counted p l z in omega arith))
         ]) in
         elim (zero_or_more (r.truth x)) [ inl e ↦ e | inr m ↦ absurd (no x (dx, m)) ]
 
@@ -69,7 +69,7 @@ module _ {P C : Type 0} (R : P → P → Type 0) (o : IsStrictOrder R) (at : C �
               let t' : pos (s.truth z) ≡ (pos (r.truth z) +ℤ d z) = step.adds.truth z in
               elim why [
                 | inl low ↦ absurd (omega (arith, ints))
-                | inr held ↦ let c : r.tokens p z ≤ r.truth z = sound.counted p step.adds.here z in absurd (omega arith)
+                | inr held ↦ let c : r.supports p z ≤ r.truth z = sound.counted p step.adds.here z in absurd (omega arith)
               ]
         ]
     stays r s (inr (inl (p, c, step))) sound none x dx = step.truth x ∙ none x dx

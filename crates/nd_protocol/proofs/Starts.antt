@@ -1,7 +1,8 @@
 -- The initial state has the protocol invariant, keys that fit, and numbers within their limits.
-use Rattle.std.proofs.Common.{◌≡◌, inl, inr, ℕ, zero, suc, ◌+◌, ◌*◌, ◌<◌, ◌≤◌, pos, true, false, cond, List, [], ◌∷◌, length, get_or, Some, refl, sym, ap, subst, ◌∙◌, arith}
+use Rattle.std.proofs.Common.{◌≡◌, inl, inr, ℕ, zero, suc, ◌+◌, ◌*◌, ◌<◌, ◌≤◌, pos, true, false, cond, List, [], ◌∷◌, ◌++◌, map, length, get_or, Some, refl, sym, ap, subst, ◌∙◌, arith}
 use Rattle.std.proofs.lemmas.Cmp.{nat_cmp_total}
 use Rattle.std.proofs.lemmas.List.Sums.{sum_by-cons}
+use Rattle.std.proofs.lemmas.List.Elements.{All-cons}
 use Rattle.std.specs.Prelude.{All, replicate, slice_get, unsigned_abs}
 use Rattle.std.specs.Option.{option_map_or}
 use Rattle.std.specs.Ordering.{nat_cmp}
@@ -11,28 +12,31 @@ use Rattle.nd_time.specs.Limits.{max_count, max_locations, max_processors}
 use Rattle.nd_graph.specs.declared.op.Op.{Op}
 use Rattle.nd_graph.specs.declared.op.Op.TheVariants.{Input, Sink}
 use Rattle.nd_graph.specs.declared.graph.Vertex.{Vertex}
-use Rattle.nd_graph.specs.Graph.{Dataflow, op_at, location_count}
+use Rattle.nd_graph.specs.Graph.{Dataflow, depth_past_vertex, op_at, location_count}
+use Rattle.nd_graph.specs.Operators.{facts}
 use Rattle.nd_graph.specs.Checked.{is_input, IsFaultless}
 use Rattle.nd_map.specs.Counts.{none as no_counts, naturals, integers, at-none as no_number, at as count_at}
-use Rattle.nd_paths.specs.Order.{IsStrictlyBefore}
-use Rattle.nd_paths.specs.Point.{point_cmp}
+use Rattle.nd_paths.specs.Order.{HasDepth, IsStrictlyBefore}
+use Rattle.nd_paths.specs.Point.{point_cmp, point_total, point_exact}
 use Rattle.nd_paths.specs.declared.point.Pointstamp.{Pointstamp}
 use Rattle.nd_delta.specs.Delta.{DeltaValue, none, at, at-none, is_point}
 use Rattle.nd_vertex.specs.Items.{Items, item_cmp}
 use Rattle.nd_processor.specs.Keys.{value_at_cmp, sink_cmp}
-use Rattle.nd_processor.specs.State.{ProcessorState, idle, token_point, one_at, in_tokens, held}
-use Rattle.nd_processor.specs.Start.{first_tokens, start_processor}
+use Rattle.nd_processor.specs.State.{ProcessorState, idle, token_point, one_at, in_requests, in_tokens, held}
+use Rattle.nd_processor.specs.Start.{first_tokens, first_point, first_requests, start_processor}
 use Rattle.nd_processor.specs.Held.{token_at}
 use Rattle.nd_processor.specs.HeldLaws.{in_tokens-insert, no_records, no_requests, no_tokens}
 use Rattle.nd_protocol.specs.State.{ClusterState, truth}
 use Rattle.nd_protocol.specs.Start.{start}
-use Rattle.nd_protocol.specs.Fitting.{QueueIsWithin, IsOrdered, DeltaFits, ProcessorFits, KeysFit, ProcessorIsWithin, IsWithinLimits, IsState}
+use Rattle.nd_protocol.specs.Fitting.{QueueIsWithin, IsOrdered, DeltaFits, IsAtVertex, ProcessorFits, KeysFit, ProcessorIsWithin, IsWithinLimits, IsState}
 use Rattle.nd_protocol.specs.Invariant.{KeepsProtocol}
+use Rattle.nd_protocol.specs.Ranges.{IsSmall, TimeIsSmall}
 use Rattle.nd_protocol.proofs.Reading.{reading}
 use Rattle.nd_protocol.proofs.Inputs.{AreInputsFlat, inputs_flat, few_locations}
 use Rattle.nd_protocol.proofs.Arcs.{IsTransitive}
 use Rattle.nd_protocol.proofs.Counts.{count, truth-count}
 use Rattle.nd_protocol.proofs.Keys.{inserted_is}
+use Rattle.nd_protocol.proofs.Requests.{in_requests-asked}
 use Rattle.nd_protocol.proofs.Ranges.{flat_small}
 use Rattle.nd_protocol.proofs.Readings.{counted, keeps_of}
 use Rattle.nd_protocol.proofs.Fitness.{outstanding_fits, zero_or_some}
@@ -103,13 +107,36 @@ first_input l (w ∷ vs) v e found =
       | false ↦ λ t h. later h
     ] refl found
 
+-- a request is at the first point of a vertex among these; the rest are depths that follow those of the vertices
+first_request : (l : ℕ) (vs : List Vertex) (rest : List ℕ) (x : Pointstamp) → fin.get (first_requests l vs) x ≡ Some tt
+    → (i d : ℕ) × (x ≡ first_point (l + i) d) × (i < length vs) × (slice_get (map (λ v. v.depth) vs ++ rest) i ≡ Some d)
+first_request l [] rest x found = absurd (nothing_found point_cmp x tt found)
+first_request l (w ∷ vs) rest x found =
+    let F : Type 0 = (i d : ℕ) × (x ≡ first_point (l + i) d) × (i < length (w ∷ vs)) × (slice_get (map (λ v. v.depth) (w ∷ vs) ++ rest) i ≡ Some d) in
+    let later : fin.get (first_requests (l + 1) vs) x ≡ Some tt → F
+    = λ h. (let (i, d, is, lt, depth) = first_request (l + 1) vs rest x h in (suc i, d, subst (λ k. x ≡ first_point k d) (omega arith) is, omega arith, depth)) in
+    elim (facts w.op).starts as (λ b. fin.get (cond b (fin.insert (first_requests (l + 1) vs) (first_point l w.depth) tt) (first_requests (l + 1) vs)) x ≡ Some tt → F) [
+      | true ↦ λ h. elim (inserted_is point_total point_exact (first_requests (l + 1) vs) (first_point l w.depth) tt x tt h) [
+        | inl (same, is) ↦ (0, w.depth, subst (λ k. x ≡ first_point k w.depth) (omega arith) same, omega arith, refl)
+        | inr there ↦ later there
+      ]
+      | false ↦ λ h. later h
+    ] found
+
+first_fits : (g : Dataflow) (x : Pointstamp) → fin.get (first_requests 0 g.vertices) x ≡ Some tt → IsAtVertex g x
+first_fits g x found =
+    let (i, d, is, lt, depth) = first_request 0 g.vertices (map (λ e. depth_past_vertex g.vertices e.from) g.edges) x found in
+    let small : TimeIsSmall (first_point i d).time = All-cons IsSmall 0 (replicate d 0) (omega arith) (all-replicate IsSmall d 0 (omega arith)) in
+    let place : 0 + i ≡ i = omega arith in
+    subst (IsAtVertex g) (sym (is ∙ ap (λ k. first_point k d) place)) (record { place = lt; fits = record { depth = subst (HasDepth g i) (sym (many-replicate d 0)) depth }; small = small })
+
 no_unsent : (g : Dataflow) → DeltaFits g none
 no_unsent g x some = absurd (some (at-none x))
 
-tokens_fit : (g : Dataflow) → AreInputsFlat g → ProcessorFits g (start_processor g)
-tokens_fit g inputs_are_flat = record {
+processor_fits : (g : Dataflow) → AreInputsFlat g → ProcessorFits g (start_processor g)
+processor_fits g inputs_are_flat = record {
   records = λ k some. absurd (some (no_number value_at_cmp naturals k));
-  requests = λ x found. absurd (nothing_found point_cmp x tt found);
+  requests = first_fits g;
   tokens = λ vertex e found.
       let (i, is, lt, op_is, first) = first_input 0 g.vertices vertex e found in
       let same : i ≡ vertex = omega (arith, is) in
@@ -125,7 +152,7 @@ pub start_fits : (g : Dataflow) → AreInputsFlat g → (n : ℕ) → KeysFit (s
 unfolding start
 start_fits g inputs_are_flat n =
     let qs : List ProcessorState = replicate n (start_processor g) in
-    let all : All (ProcessorFits g) qs = all-replicate (ProcessorFits g) n (start_processor g) (tokens_fit g inputs_are_flat) in
+    let all : All (ProcessorFits g) qs = all-replicate (ProcessorFits g) n (start_processor g) (processor_fits g inputs_are_flat) in
     let shown : DeltaFits g (truth qs) = λ x some. elim (zero_or_some (count qs x)) [
       | inl nothing ↦ absurd (some (truth-count qs x ∙ ap pos nothing))
       | inr more ↦ outstanding_fits g qs x all more
@@ -159,11 +186,20 @@ few_tokens l (v ∷ vs) x =
       | false ↦ omega arith
     ]
 
-few_held : (g : Dataflow) (x : Pointstamp) → held (start_processor g) x ≤ length g.vertices
+few_requests : (l : ℕ) (vs : List Vertex) (x : Pointstamp) → in_requests (first_requests l vs) x ≤ length vs
+few_requests l [] x = let nothing : in_requests fin.empty x ≡ 0 = no_requests x in omega arith
+few_requests l (v ∷ vs) x =
+    let rest : in_requests (first_requests (l + 1) vs) x ≤ length vs = few_requests (l + 1) vs x in
+    let one : in_requests (cond (facts v.op).starts (fin.insert (first_requests (l + 1) vs) (first_point l v.depth) tt) (first_requests (l + 1) vs)) x ≤ in_requests (first_requests (l + 1) vs) x + one_at (first_point l v.depth) x
+    = in_requests-asked (facts v.op).starts (first_requests (l + 1) vs) (first_point l v.depth) x in
+    let most : one_at (first_point l v.depth) x ≤ 1 = at_most_one (first_point l v.depth) x in
+    omega arith
+
+few_held : (g : Dataflow) (x : Pointstamp) → held (start_processor g) x ≤ 2 * length g.vertices
 few_held g x =
-    let a : in_tokens (first_tokens 0 g.vertices) x ≤ length g.vertices = few_tokens 0 g.vertices x in
-    let b = no_records x in
-    let c = no_requests x in
+    let tokens : in_tokens (first_tokens 0 g.vertices) x ≤ length g.vertices = few_tokens 0 g.vertices x in
+    let requests : in_requests (first_requests 0 g.vertices) x ≤ length g.vertices = few_requests 0 g.vertices x in
+    let records = no_records x in
     omega arith
 
 few_counted : (q : ProcessorState) (n m : ℕ) (x : Pointstamp) → held q x ≤ m → count (replicate n q) x ≤ n * m
@@ -177,8 +213,8 @@ few_counted q (suc n) m x few =
 small_truth : (g : Dataflow) → IsFaultless g → (n : ℕ) → n ≤ max_processors → (x : Pointstamp) → unsigned_abs (at (truth (replicate n (start_processor g))) x) ≤ max_count
 small_truth g sound n few x =
     let places : location_count g ≤ max_locations = few_locations g sound in
-    let each : held (start_processor g) x ≤ max_locations = (let h : held (start_processor g) x ≤ length g.vertices = few_held g x in omega arith) in
-    let sum : count (replicate n (start_processor g)) x ≤ n * max_locations = few_counted (start_processor g) n max_locations x each in
+    let each : held (start_processor g) x ≤ 2 * max_locations = (let h : held (start_processor g) x ≤ 2 * length g.vertices = few_held g x in omega arith) in
+    let sum : count (replicate n (start_processor g)) x ≤ n * (2 * max_locations) = few_counted (start_processor g) n (2 * max_locations) x each in
     subst (λ z. unsigned_abs z ≤ max_count) (sym (truth-count (replicate n (start_processor g)) x)) (omega arith)
 
 idle_within : (g : Dataflow) → ProcessorIsWithin (start_processor g)

@@ -26,7 +26,8 @@ use Rattle.nd_protocol.proofs.Arcs.{IsTransitive, irreflexive, along, arc_of_edg
 use Rattle.nd_protocol.proofs.Counts.{AllAt-flat}
 use Rattle.nd_protocol.proofs.Emissions.{AllAt-wider, emitted_later, emitted_on_edges}
 use Rattle.nd_protocol.proofs.Keys.{AreValues, taken_fits, noticed_fits, items_recorded, items_noticed, counts_sink}
-use Rattle.nd_protocol.proofs.Requests.{in_requests-asked}
+use Rattle.nd_protocol.proofs.Requests.{in_requests-asked, in_requests-not_less}
+use Rattle.nd_protocol.proofs.Supports.{still_supports}
 
 pub take_cause : IsTransitive → (s : ClusterState) → IsOrdered s.graph → (p edge : ℕ) (t : Time) (value : ℤ) → 0 < at (processor s p).records (record_key edge t value) → FitsTypes s (taking p edge t value) → ProcessorFits s.graph (processor s p) → HasCause s (taking p edge t value)
 take_cause trans s o p edge t value some numbers fit =
@@ -70,7 +71,7 @@ take_cause trans s o p edge t value some numbers fit =
         | inr apart ↦ inr (omega (arith, less z, asked z))
       ];
       goes = inl gone;
-      tokens = λ z h. inl h;
+      supports = λ z h. inl (still_supports g q r.requests z (in_requests-not_less outcome.asks q.requests m z) h);
     }
 
 pub notice_cause : (s : ClusterState) → IsOrdered s.graph → (p vertex : ℕ) (t : Time) → fin.get (processor s p).requests (point_at vertex t) ≡ Some tt → ProcessorFits s.graph (processor s p) → HasCause s (noticing p vertex t)
@@ -87,6 +88,7 @@ notice_cause s o p vertex t found fit =
       | inr same ↦ let old = fit.items vertex k (λ e. some (same ∙ e)) in (old.1, subst IsValue (sym same) old.2)
     ] in
     let less : (z : Pointstamp) → in_requests (fin.remove q.requests y) z + one_at y z ≡ in_requests q.requests z = λ z. in_requests-remove q.requests y z found in
+    let gone : held r y < held q y = omega (arith, less y, one_at_itself y) in
     record {
       fits = noticed_fits g q vertex t outcome (items_noticed (op_at g vertex) (items_at q vertex) t) values place fit;
       edges = AllAt-flat (λ z. length g.vertices ≤ z.location) (emitted g (length s.processors) p vertex t) (emitted_on_edges g (length s.processors) p vertex t) outcome.emissions;
@@ -95,6 +97,6 @@ notice_cause s o p vertex t found fit =
       cause = y;
       later = AllAt-flat (IsStrictlyBefore g y) (emitted g (length s.processors) p vertex t) (emitted_later g o (length s.processors) p vertex t place.fits) outcome.emissions;
       grows = λ z. inr (omega (arith, less z));
-      goes = inl (omega (arith, less y, one_at_itself y));
-      tokens = λ z h. inl h;
+      goes = inl gone;
+      supports = λ z h. elim (point_cases z y) [ inl same ↦ inr (same, gone) | inr apart ↦ inl (still_supports g q r.requests z (omega (arith, less z)) h) ];
     }

@@ -9,9 +9,11 @@ use Rattle.nd_protocol.specs.declared.part.Part.TheVariants.{All, Points}
 use Rattle.nd_time.specs.Time.{Time}
 use Rattle.nd_time.specs.Listing.{time_code}
 use Rattle.nd_protocol.specs.Times.{times_code}
+use Rattle.nd_protocol.specs.Batches.{batch_code}
 use Rattle.nd_protocol.specs.declared.times.Times.{Times}
+use Rattle.nd_protocol.specs.declared.batch.Batch.{Batch}
 use Rattle.nd_protocol.specs.declared.step.Step.{Step}
-use Rattle.nd_protocol.specs.declared.step.Step.TheVariants.{Feed, Take, Notice, Release, Broadcast, Receive}
+use Rattle.nd_protocol.specs.declared.step.Step.TheVariants.{Feed, Take, Notice, Release, Send, Broadcast, Receive}
 use Rattle.nd_protocol.specs.declared.step.Next.{Next as Afterwards}
 use Rattle.nd_protocol.specs.declared.step.Next.TheVariants as token
 
@@ -37,8 +39,8 @@ abbrev pub next_code : Coded Afterwards
 next_code = code_by ℕ coded_ℕ next_number next_of next_back
 
 -- a step as its parts
-abbrev pub Parts : Type 0
-Parts = (ℕ × (ℕ × (List ℤ × Afterwards))) ⊎ ((ℕ × (ℕ × (Time × ℤ))) ⊎ ((ℕ × (ℕ × Time)) ⊎ ((ℕ × Option (List Pointstamp)) ⊎ ((ℕ × ℕ) ⊎ (ℕ × (ℕ × Times))))))
+abbrev pub Parts : Type 0 → Type 0
+Parts A = (ℕ × (ℕ × (List ℤ × Afterwards))) ⊎ ((ℕ × (ℕ × (Time × ℤ))) ⊎ ((ℕ × (ℕ × Time)) ⊎ ((ℕ × Option (List Pointstamp)) ⊎ ((ℕ × ℕ) ⊎ ((ℕ × (ℕ × Times)) ⊎ (ℕ × (ℕ × Batch A)))))))
 
 module _ {A : Type 0} where
   abbrev pub named : Part A → Option (List Pointstamp)
@@ -53,21 +55,23 @@ module _ {A : Type 0} where
   part_back All = refl
   part_back (Points points) = refl
 
-  abbrev pub step_parts : Step A → Parts
+  abbrev pub step_parts : Step A → Parts A
   step_parts (Feed p vertex values next) = inl (p, (vertex, (values, next)))
   step_parts (Take p edge time value) = inr (inl (p, (edge, (time, value))))
   step_parts (Notice p vertex time) = inr (inr (inl (p, (vertex, time))))
   step_parts (Broadcast p part) = inr (inr (inr (inl (p, named part))))
   step_parts (Receive from to) = inr (inr (inr (inr (inl (from, to)))))
-  step_parts (Release p vertex times) = inr (inr (inr (inr (inr (p, (vertex, times))))))
+  step_parts (Release p vertex times) = inr (inr (inr (inr (inr (inl (p, (vertex, times)))))))
+  step_parts (Send p vertex batch) = inr (inr (inr (inr (inr (inr (p, (vertex, batch)))))))
 
-  abbrev pub step_of : Parts → Step A
+  abbrev pub step_of : Parts A → Step A
   step_of (inl t) = Feed t.0 t.1.0 t.1.1.0 t.1.1.1
   step_of (inr (inl t)) = Take t.0 t.1.0 t.1.1.0 t.1.1.1
   step_of (inr (inr (inl t))) = Notice t.0 t.1.0 t.1.1
   step_of (inr (inr (inr (inl t)))) = Broadcast t.0 (part_of t.1)
   step_of (inr (inr (inr (inr (inl t))))) = Receive t.0 t.1
-  step_of (inr (inr (inr (inr (inr t))))) = Release t.0 t.1.0 t.1.1
+  step_of (inr (inr (inr (inr (inr (inl t)))))) = Release t.0 t.1.0 t.1.1
+  step_of (inr (inr (inr (inr (inr (inr t)))))) = Send t.0 t.1.0 t.1.1
 
   pub step_back : (x : Step A) → step_of (step_parts x) ≡ x
   step_back (Feed p vertex values _) = refl
@@ -76,9 +80,10 @@ module _ {A : Type 0} where
   step_back (Broadcast p part) = ap (λ (q : Part A). Broadcast p q) (part_back part)
   step_back (Receive from to) = refl
   step_back (Release p vertex times) = refl
+  step_back (Send p vertex batch) = refl
 
   abbrev pub step_code : Coded (Step A)
   step_code =
-      code_by Parts (coded⊎ (coded× coded_ℕ (coded× coded_ℕ (coded× (coded_list coded_ℤ) next_code))) (coded⊎ (coded× coded_ℕ (coded× coded_ℕ (coded× time_code coded_ℤ)))
-      (coded⊎ (coded× coded_ℕ (coded× coded_ℕ time_code)) (coded⊎ (coded× coded_ℕ (coded_option (coded_list point_code))) (coded⊎ (coded× coded_ℕ coded_ℕ) (coded× coded_ℕ (coded× coded_ℕ times_code)))))))
+      code_by (Parts A) (coded⊎ (coded× coded_ℕ (coded× coded_ℕ (coded× (coded_list coded_ℤ) next_code))) (coded⊎ (coded× coded_ℕ (coded× coded_ℕ (coded× time_code coded_ℤ)))
+      (coded⊎ (coded× coded_ℕ (coded× coded_ℕ time_code)) (coded⊎ (coded× coded_ℕ (coded_option (coded_list point_code))) (coded⊎ (coded× coded_ℕ coded_ℕ) (coded⊎ (coded× coded_ℕ (coded× coded_ℕ times_code)) (coded× coded_ℕ (coded× coded_ℕ batch_code))))))))
       step_parts step_of step_back

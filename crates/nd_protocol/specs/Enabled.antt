@@ -1,13 +1,15 @@
 -- When a step is enabled, and with which refusal it is refused otherwise: that of the least number whose condition holds (this
 -- project's own rule).
-use Rattle.std.specs.Prelude.{◌≡◌, ◌≢◌, ℕ, ◌<◌, ◌≤◌, ◌⊎◌, ℤ, List, [], ◌∷◌, length, All, None, unsigned_abs, FitsSigned}
+use Rattle.std.specs.Prelude.{◌≡◌, ◌≢◌, ℕ, ◌<◌, ◌≤◌, ◌⊎◌, ℤ, true, false, List, [], ◌∷◌, length, All, Option, Some, None, unsigned_abs, FitsSigned}
 use Rattle.std.specs.Int.{w64}
 use Rattle.std.specs.FinMap as fin
 use Rattle.nd_time.specs.Limits.{max_count, max_counter, max_values, max_queue}
-use Rattle.nd_time.specs.Time.{Time, last_of}
+use Rattle.nd_time.specs.Time.{Time, IsAtOrBefore, last_of}
 use Rattle.nd_map.specs.Counts.{at}
 use Rattle.nd_graph.specs.Graph.{location_count, op_at}
 use Rattle.nd_graph.specs.declared.op.Op.TheVariants as op
+use Rattle.nd_graph.specs.Operators.{facts}
+use Rattle.nd_graph.specs.Checked.{ports}
 use Rattle.nd_paths.specs.Order.{IsStrictlyBefore}
 use Rattle.nd_paths.specs.declared.point.Pointstamp.{Pointstamp}
 use Rattle.nd_delta.specs.Delta.{DeltaValue, none, at as in_change, minus}
@@ -19,19 +21,21 @@ use Rattle.nd_vertex.specs.declared.key.ItemKey.{ItemKey}
 use Rattle.nd_processor.specs.declared.key.ValueAt.{ValueAt}
 use Rattle.nd_processor.specs.declared.key.SinkKey.{SinkKey}
 use Rattle.nd_protocol.specs.State.{ClusterState, processor, view, queue}
-use Rattle.nd_protocol.specs.Invariant.{HoldsToken}
+use Rattle.nd_protocol.specs.Invariant.{Supports}
 use Rattle.nd_protocol.specs.Exchange.{StaysUpright}
-use Rattle.nd_protocol.specs.Steps.{record_key, target_of, point_at, epoch_of, take_outcome, chosen, stepped}
+use Rattle.nd_protocol.specs.Steps.{record_key, target_of, point_at, epoch_of, take_outcome, batch_time, chosen, stepped}
 use Rattle.nd_protocol.specs.Refusals.{number_of}
 use Rattle.nd_protocol.specs.Ranges.{NumbersFit}
-use Rattle.nd_protocol.specs.Times.{GoesLater}
+use Rattle.nd_protocol.specs.Times.{GoesLater, is_kept}
+use Rattle.nd_protocol.specs.declared.times.Later.{Later}
 use Rattle.nd_protocol.specs.declared.times.Times.{Times}
+use Rattle.nd_protocol.specs.declared.batch.Batch.{Batch}
 use Rattle.nd_protocol.specs.declared.step.Step.{Step}
-use Rattle.nd_protocol.specs.declared.step.Step.TheVariants.{Feed, Take, Notice, Release, Broadcast, Receive}
+use Rattle.nd_protocol.specs.declared.step.Step.TheVariants.{Feed, Take, Notice, Release, Send, Broadcast, Receive}
 use Rattle.nd_protocol.specs.declared.step.Next.{Next as Afterwards}
 use Rattle.nd_protocol.specs.declared.step.Next.TheVariants as token
 use Rattle.nd_protocol.specs.declared.refusal.Refusal.{Refusal}
-use Rattle.nd_protocol.specs.declared.refusal.Refusal.TheVariants.{NoProcessor, NoVertex, NoEdge, NotInput, InputClosed, TooManyValues, EpochFull, NoRecord, NoRequest, NotYet, CounterFull, ValueRange, CountFull, DeltaFull, NothingToSend, NotAdmissible, QueueEmpty, QueueFull, NotNotified, NotLater}
+use Rattle.nd_protocol.specs.declared.refusal.Refusal.TheVariants.{NoProcessor, NoVertex, NoEdge, NotInput, InputClosed, TooManyValues, EpochFull, NoRecord, NoRequest, NotYet, CounterFull, ValueRange, CountFull, DeltaFull, NothingToSend, NotAdmissible, QueueEmpty, QueueFull, NotNotified, NotLater, NoPort, TooEarly}
 
 -- the count of a record or of a sink exceeds its limit
 pub data HasLargeCount (s : ClusterState) : Type 0 where
@@ -84,18 +88,48 @@ NoticeFails s p vertex t new NoRequest = fin.get (processor s p).requests (point
 NoticeFails s p vertex t new (NotYet blocker) = IsLeast (IsPrecursor s.graph (view s p) (point_at vertex t)) blocker
 NoticeFails s p vertex t new CountFull = HasLargeCount new
 NoticeFails s p vertex t new DeltaFull = HasLargeEntry new
-NoticeFails s p vertex t new NotNotified = op_at s.graph vertex ≡ op.Hold
+NoticeFails s p vertex t new NotNotified = (facts (op_at s.graph vertex)).holds ≡ true
 NoticeFails s p vertex t new _ = ⊥
+
+-- no capability is held at the time, or the vertex does not hold capabilities
+pub data HoldsNone (s : ClusterState) (p vertex : ℕ) (t : Time) : Type 0 where
+  by_operator : (facts (op_at s.graph vertex)).holds ≡ false → HoldsNone s p vertex t
+  at_this_time : fin.get (processor s p).requests (point_at vertex t) ≡ None → HoldsNone s p vertex t
+
+-- the capability is to stay beside the later one, but does not support it
+abbrev pub KeepsInVain : ClusterState → ℕ → Option Later → Type 0
+KeepsInVain s vertex to = (is_kept to ≡ true) × ((facts (op_at s.graph vertex)).supports ≡ false)
 
 -- the conditions of a release; no count grows, so that of refusal 13 never holds
 abbrev pub ReleaseFails : ClusterState → ℕ → ℕ → Times → ClusterState → Refusal → Type 0
 ReleaseFails s p vertex times new NoProcessor = length s.processors ≤ p
 ReleaseFails s p vertex times new NoVertex = length s.graph.vertices ≤ vertex
-ReleaseFails s p vertex times new NoRequest = (op_at s.graph vertex ≢ op.Hold) ⊎ (fin.get (processor s p).requests (point_at vertex times.time) ≡ None)
+ReleaseFails s p vertex times new NoRequest = HoldsNone s p vertex times.time ⊎ KeepsInVain s vertex times.to
 ReleaseFails s p vertex times new CountFull = HasLargeCount new
 ReleaseFails s p vertex times new DeltaFull = HasLargeEntry new
 ReleaseFails s p vertex times new NotLater = GoesLater times.time times.to → ⊥
 ReleaseFails s p vertex times new _ = ⊥
+
+-- the batch names a processor that is not there
+abbrev pub GoesNowhere : ClusterState → Option ℕ → Type 0
+GoesNowhere s None = ⊥
+GoesNowhere s (Some dest) = length s.processors ≤ dest
+
+-- no capability from which values may be sent is held at the time
+pub data SendsFromNone (s : ClusterState) (p vertex : ℕ) (t : Time) : Type 0 where
+  by_operator : (facts (op_at s.graph vertex)).supports ≡ false → SendsFromNone s p vertex t
+  at_this_time : fin.get (processor s p).requests (point_at vertex t) ≡ None → SendsFromNone s p vertex t
+
+abbrev pub SendFails : {A : Type 0} → ClusterState → ℕ → ℕ → Batch A → ClusterState → Refusal → Type 0
+SendFails s p vertex batch new NoProcessor = (length s.processors ≤ p) ⊎ GoesNowhere s batch.dest
+SendFails s p vertex batch new NoVertex = length s.graph.vertices ≤ vertex
+SendFails s p vertex batch new TooManyValues = max_values < length batch.values
+SendFails s p vertex batch new NoRequest = SendsFromNone s p vertex batch.time
+SendFails s p vertex batch new CountFull = HasLargeCount new
+SendFails s p vertex batch new DeltaFull = HasLargeEntry new
+SendFails s p vertex batch new NoPort = ports (op_at s.graph vertex) ≤ batch.port
+SendFails s p vertex batch new TooEarly = IsAtOrBefore batch.time (batch_time batch) → ⊥
+SendFails s p vertex batch new _ = ⊥
 
 -- one of the queues from p holds as many changes as a queue may
 abbrev pub HasFullQueue : ClusterState → ℕ → Type 0
@@ -106,7 +140,7 @@ HasFullQueue s p = (q : ℕ) × (q < length s.processors) × (max_queue ≤ leng
 abbrev pub BroadcastFails : ClusterState → ℕ → DeltaValue → Refusal → Type 0
 BroadcastFails s p c NoProcessor = length s.processors ≤ p
 BroadcastFails s p c NothingToSend = c ≡ none
-BroadcastFails s p c (NotAdmissible x) = IsLeast (IsUnsupported (IsStrictlyBefore s.graph) (HoldsToken (processor s p)) (in_change (minus (processor s p).unsent c))) x
+BroadcastFails s p c (NotAdmissible x) = IsLeast (IsUnsupported (IsStrictlyBefore s.graph) (Supports s.graph (processor s p)) (in_change (minus (processor s p).unsent c))) x
 BroadcastFails s p c QueueFull = HasFullQueue s p
 BroadcastFails s p c _ = ⊥
 
@@ -122,17 +156,20 @@ Fails {A} s (Feed p vertex values next) r = FeedFails s p vertex values next (st
 Fails {A} s (Take p edge t value) r = TakeFails s p edge t value (stepped {A = A} s (Take p edge t value)) r
 Fails {A} s (Notice p vertex t) r = NoticeFails s p vertex t (stepped {A = A} s (Notice p vertex t)) r
 Fails {A} s (Release p vertex times) r = ReleaseFails s p vertex times (stepped {A = A} s (Release p vertex times)) r
+Fails {A} s (Send p vertex batch) r = SendFails s p vertex batch (stepped {A = A} s (Send p vertex batch)) r
 Fails {A} s (Broadcast p part) r = BroadcastFails s p (chosen part (processor s p).unsent) r
 Fails {A} s (Receive from to) r = ReceiveFails s from to (stepped {A = A} s (Receive from to)) r
 
--- what p does not send is upright; a released capability ends, or moves to a later time
+-- what p does not send is upright; a released capability ends, or moves to a later time; what is sent is not before the capability
 abbrev pub IsAdmissible : {A : Type 0} → ClusterState → Step A → Type 0
 IsAdmissible s (Broadcast p part) = StaysUpright s p (chosen part (processor s p).unsent)
 IsAdmissible s (Release p vertex times) = GoesLater times.time times.to
+IsAdmissible s (Send p vertex batch) = IsAtOrBefore batch.time (batch_time batch)
 IsAdmissible s _ = Unit {0}
 
 -- no condition of a refusal holds, and the numbers of the step fit their types, as those of every step of a program do;
--- `admissible` excludes refusals 16 and 54: each entry that stays is supported, and a capability moves only to a later time
+-- `admissible` excludes refusals 16, 54 and 56: each entry that stays is supported, a capability moves only to a later time, and what is
+-- sent is not before it
 pub record IsEnabled {A : Type 0} (s : ClusterState) (x : Step A) : Type 0 where
   pub free : (r : Refusal) → Fails s x r → ⊥
   pub admissible : IsAdmissible s x

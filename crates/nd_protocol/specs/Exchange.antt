@@ -5,15 +5,15 @@ use Rattle.nd_paths.specs.declared.point.Pointstamp.{Pointstamp}
 use Rattle.nd_delta.specs.Delta.{DeltaValue, at, plus, minus}
 use Rattle.nd_delta.specs.Upright.{IsUpright}
 use Rattle.nd_protocol.specs.State.{ClusterState, processor, view, queue}
-use Rattle.nd_protocol.specs.Invariant.{HoldsToken}
+use Rattle.nd_protocol.specs.Invariant.{Supports}
 
 -- at each pointstamp c has no entry, or the entry of d
 abbrev pub IsPart : DeltaValue → DeltaValue → Type 0
 IsPart c d = (x : Pointstamp) → (at c x ≡ pos 0) ⊎ (at c x ≡ at d x)
 
--- after p has sent c, what is still unsent is upright, given the tokens that p holds
+-- after p has sent c, what is still unsent is upright, given the tokens and capabilities that p holds
 abbrev pub StaysUpright : ClusterState → ℕ → DeltaValue → Type 0
-StaysUpright s p c = IsUpright (IsStrictlyBefore s.graph) (HoldsToken (processor s p)) (at (minus (processor s p).unsent c))
+StaysUpright s p c = IsUpright (IsStrictlyBefore s.graph) (Supports s.graph (processor s p)) (at (minus (processor s p).unsent c))
 
 -- p sends the change c: it is subtracted from what is unsent, and appended to each queue from p
 unfoldable pub sent : ClusterState → ℕ → DeltaValue → ClusterState

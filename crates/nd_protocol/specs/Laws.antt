@@ -8,6 +8,7 @@ use Rattle.nd_graph.specs.Checked.{IsFaultless}
 use Rattle.nd_paths.specs.Order.{CouldResultIn, IsStrictlyBefore}
 use Rattle.nd_paths.specs.declared.point.Pointstamp.{Pointstamp}
 use Rattle.nd_delta.specs.Delta.{at}
+use Rattle.nd_processor.specs.declared.key.ValueAt.{ValueAt}
 use Rattle.nd_view.specs.View.{IsPassed, IsPrecursor}
 use Rattle.nd_protocol.specs.State.{ClusterState, processor, view, truth}
 use Rattle.nd_protocol.specs.Start.{start}
@@ -15,8 +16,10 @@ use Rattle.nd_protocol.specs.Steps.{point_at, stepped, after}
 use Rattle.nd_protocol.specs.Fitting.{IsOrdered, IsState}
 use Rattle.nd_protocol.specs.Enabled.{IsEnabled, AreEnabled}
 use Rattle.nd_protocol.specs.Invariant.{IsSettled, KeepsProtocol, IsFinished}
+use Rattle.nd_protocol.specs.Sending.{Appears, IsAfterSend}
+use Rattle.nd_protocol.specs.declared.batch.Batch.{Batch}
 use Rattle.nd_protocol.specs.declared.step.Step.{Step}
-use Rattle.nd_protocol.specs.declared.step.Step.TheVariants.{Notice}
+use Rattle.nd_protocol.specs.declared.step.Step.TheVariants.{Notice, Send}
 
 -- ---- starts
 
@@ -76,3 +79,22 @@ NoticeComesLast A = (s : ClusterState) (p vertex : ℕ) (t : Time) → IsState s
 -- what is finished is still finished after enabled steps
 abbrev pub FinishedStaysFinished : Type 0 → Type 0
 FinishedStaysFinished A = (s : ClusterState) (xs : List (Step A)) → IsState s → KeepsProtocol s → AreEnabled s xs → (t : Pointstamp) → IsFinished s t → IsFinished (after s xs) t
+
+-- ---- sends
+
+-- each record that an enabled send makes is strictly after the capability, which its processor holds before and after
+abbrev pub SentIsLater : Type 0 → Type 0
+SentIsLater A = (s : ClusterState) (p vertex : ℕ) (batch : Batch A) → IsState s → IsEnabled s (Send p vertex batch)
+    → (fin.get (processor s p).requests (point_at vertex batch.time) ≡ Some tt)
+    × (fin.get (processor (stepped s (Send p vertex batch)) p).requests (point_at vertex batch.time) ≡ Some tt)
+    × ((r : ValueAt) → Appears s (stepped s (Send p vertex batch)) r → IsStrictlyBefore s.graph (point_at vertex batch.time) r.point)
+
+-- no view has passed the pointstamp of a record that an enabled send makes
+abbrev pub SentIsNotPassed : Type 0 → Type 0
+SentIsNotPassed A = (s : ClusterState) (p q vertex : ℕ) (batch : Batch A) → IsState s → KeepsProtocol s → IsEnabled s (Send p vertex batch) → q < length s.processors
+    → (r : ValueAt) → Appears s (stepped s (Send p vertex batch)) r → IsPassed s.graph (view s q) r.point → ⊥
+
+-- an enabled send makes one record for each value on each edge of its port, and changes nothing else but what its processor has to
+-- send
+abbrev pub SendIsExact : Type 0 → Type 0
+SendIsExact A = (s : ClusterState) (p vertex : ℕ) (batch : Batch A) → IsState s → IsEnabled s (Send p vertex batch) → IsAfterSend s (stepped s (Send p vertex batch)) p vertex batch

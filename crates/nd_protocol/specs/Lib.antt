@@ -1,6 +1,7 @@
 pub mod State
 pub mod Steps
 pub mod Times
+pub mod Batches
 pub mod Values
 pub mod TruthLaws
 pub mod Ranges
@@ -10,5 +11,6 @@ pub mod Enabled
 pub mod Start
 pub mod Invariant
 pub mod Exchange
+pub mod Sending
 pub mod Laws
 pub mod Codes

@@ -2,7 +2,7 @@
 use Rattle.std.specs.Prelude.{ℕ, codes}
 use Rattle.nd_time.specs.Code.{Code, coded}
 use Rattle.nd_protocol.specs.declared.refusal.Refusal.{Refusal}
-use Rattle.nd_protocol.specs.declared.refusal.Refusal.TheVariants.{NoProcessor, NoVertex, NoEdge, NotInput, InputClosed, TooManyValues, EpochFull, NoRecord, NoRequest, NotYet, CounterFull, ValueRange, CountFull, DeltaFull, NothingToSend, NotAdmissible, QueueEmpty, QueueFull, NotNotified, NotLater, Memory}
+use Rattle.nd_protocol.specs.declared.refusal.Refusal.TheVariants.{NoProcessor, NoVertex, NoEdge, NotInput, InputClosed, TooManyValues, EpochFull, NoRecord, NoRequest, NotYet, CounterFull, ValueRange, CountFull, DeltaFull, NothingToSend, NotAdmissible, QueueEmpty, QueueFull, NotNotified, NotLater, NoPort, TooEarly, Memory}
 
 -- the number and the name of a refusal
 abbrev pub code_of : Refusal → Code
@@ -26,6 +26,8 @@ code_of QueueEmpty = coded 17 (codes "QueueEmpty")
 code_of QueueFull = coded 18 (codes "QueueFull")
 code_of NotNotified = coded 53 (codes "NotNotified")
 code_of NotLater = coded 54 (codes "NotLater")
+code_of NoPort = coded 55 (codes "NoPort")
+code_of TooEarly = coded 56 (codes "TooEarly")
 code_of Memory = coded 19 (codes "Memory")
 
 -- the number of a refusal; refusals are tested in the order of their numbers

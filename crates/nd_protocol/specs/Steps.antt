@@ -20,8 +20,10 @@ use Rattle.nd_processor.specs.declared.key.ValueAt.{ValueAt}
 use Rattle.nd_protocol.specs.State.{ClusterState, processor, truth}
 use Rattle.nd_protocol.specs.Exchange.{sent, received}
 use Rattle.nd_protocol.specs.declared.step.Step.{Step}
-use Rattle.nd_protocol.specs.declared.step.Step.TheVariants.{Feed, Take, Notice, Release, Broadcast, Receive}
+use Rattle.nd_protocol.specs.declared.step.Step.TheVariants.{Feed, Take, Notice, Release, Send, Broadcast, Receive}
+use Rattle.nd_protocol.specs.declared.times.Later.{Later}
 use Rattle.nd_protocol.specs.declared.times.Times.{Times}
+use Rattle.nd_protocol.specs.declared.batch.Batch.{Batch}
 use Rattle.nd_protocol.specs.declared.part.Part.{Part}
 use Rattle.nd_protocol.specs.declared.part.Part.TheVariants.{All, Points}
 use Rattle.nd_protocol.specs.declared.step.Next.{Next as Afterwards}
@@ -34,22 +36,28 @@ abbrev pub destination : Route → ℕ → ℕ → ℤ → ℕ
 destination Local n p v = p
 destination Exchange n p v = unsigned_abs (int_rem_euclid v (pos n))
 
+-- the same for a record that is sent to the processor dest, if one is named: a record on a local edge stays all the same
+abbrev pub directed : Option ℕ → Route → ℕ → ℕ → ℤ → ℕ
+directed None route n p v = destination route n p v
+directed (Some dest) Local n p v = p
+directed (Some dest) Exchange n p v = dest
+
 -- the record of a value at an edge's pointstamp
 abbrev pub record_key : ℕ → Time → ℤ → ValueAt
 record_key edge t value = record { point = record { location = edge; time = t }; value = value }
 
 -- the records that one value emitted on a port makes, each with its processor: one record on each edge that leaves the port; the
 -- first of the edges is the location l
-abbrev pub made_on : ℕ → ℕ → ℕ → ℕ → ℤ → Time → ℕ → List Edge → List (ℕ × ValueAt)
-made_on n p vertex port v t l [] = []
-made_on n p vertex port v t l (e ∷ edges) =
-    (if nat_eq e.from vertex && nat_eq e.port port then (destination e.route n p v, record_key l t v) ∷ [] else [])
-    ++ made_on n p vertex port v t (l + 1) edges
+abbrev pub made_on : Option ℕ → ℕ → ℕ → ℕ → ℕ → ℤ → Time → ℕ → List Edge → List (ℕ × ValueAt)
+made_on dest n p vertex port v t l [] = []
+made_on dest n p vertex port v t l (e ∷ edges) =
+    (if nat_eq e.from vertex && nat_eq e.port port then (directed dest e.route n p v, record_key l t v) ∷ [] else [])
+    ++ made_on dest n p vertex port v t (l + 1) edges
 
 -- the records that an emission of a vertex of processor p makes, each with its processor; t is the time before the vertex's
 -- action
 abbrev pub emitted : Dataflow → ℕ → ℕ → ℕ → Time → ℕ × ℤ → List (ℕ × ValueAt)
-emitted g n p vertex t e = made_on n p vertex e.0 e.1 (time_past (op_at g vertex) t) (length g.vertices) g.edges
+emitted g n p vertex t e = made_on None n p vertex e.0 e.1 (time_past (op_at g vertex) t) (length g.vertices) g.edges
 
 -- the processors with one record added to its processor
 abbrev pub with_record : List ProcessorState → ℕ × ValueAt → List ProcessorState
@@ -125,16 +133,33 @@ noticed s p vertex t =
     (slice_set s.processors p (record q { requests = fin.remove q.requests (point_at vertex t); items = slice_set q.items vertex outcome.items }))
     (flat_map (emitted s.graph (length s.processors) p vertex t) outcome.emissions)
 
--- a request is removed, or moved to another time; if there is already a request at that time, it stays
-abbrev pub moved_request : Requests → ℕ → Time → Option Time → Requests
+-- a request is removed, moved to another time, or stays beside one at another time; if there is already a request at that time, it
+-- stays
+abbrev pub moved_request : Requests → ℕ → Time → Option Later → Requests
 moved_request requests vertex t None = fin.remove requests (point_at vertex t)
-moved_request requests vertex t (Some to) = fin.insert (fin.remove requests (point_at vertex t)) (point_at vertex to) tt
+moved_request requests vertex t (Some to) = fin.insert (cond to.keep requests (fin.remove requests (point_at vertex t))) (point_at vertex to.time) tt
 
--- a held capability is dropped, or moved to another time
+-- a held capability is dropped, moved to another time, or stays beside one at another time
 unfoldable pub released : ClusterState → ℕ → ℕ → Times → List ProcessorState
 released s p vertex times =
     let q = processor s p in
     slice_set s.processors p (record q { requests = moved_request q.requests vertex times.time times.to })
+
+-- the time of the records of a batch
+abbrev pub batch_time : {A : Type 0} → Batch A → Time
+batch_time b = unwrap_or b.at b.time
+
+-- the records that one value of a batch makes, each with its processor
+abbrev pub posts : {A : Type 0} → Dataflow → ℕ → ℕ → ℕ → Batch A → ℤ → List (ℕ × ValueAt)
+posts g n p vertex b v = made_on b.dest n p vertex b.port v (batch_time b) (length g.vertices) g.edges
+
+-- the records that a batch makes, each with its processor
+abbrev pub posted_records : {A : Type 0} → ClusterState → ℕ → ℕ → Batch A → List (ℕ × ValueAt)
+posted_records s p vertex b = flat_map (posts s.graph (length s.processors) p vertex b) b.values
+
+-- a vertex sends the values of a batch
+unfoldable pub posted : {A : Type 0} → ClusterState → ℕ → ℕ → Batch A → List ProcessorState
+posted s p vertex b = with_records s.processors (posted_records s p vertex b)
 
 -- ---- the steps
 
@@ -161,6 +186,7 @@ stepped s (Feed p vertex values next) = worked s p (fed s p vertex values next)
 stepped s (Take p edge t value) = worked s p (taken s p edge t value)
 stepped s (Notice p vertex t) = worked s p (noticed s p vertex t)
 stepped s (Release p vertex times) = worked s p (released s p vertex times)
+stepped s (Send p vertex batch) = worked s p (posted s p vertex batch)
 stepped s (Broadcast p part) = sent s p (chosen part (processor s p).unsent)
 stepped s (Receive from to) = received s from to
 

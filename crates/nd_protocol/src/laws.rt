@@ -3,6 +3,7 @@
 ghost use Rattle.nd_protocol.specs.Laws.{StartIsState, StartKeepsProtocol, TruthIsSmall};
 ghost use Rattle.nd_protocol.specs.Laws.{StepLeadsToState, StepKeepsSettled, StepKeepsProtocol, RunKeepsProtocol};
 ghost use Rattle.nd_protocol.specs.Laws.{PassedMeansFinished, HeldIsNotPassed, NothingIsBefore, NoticeComesLast, FinishedStaysFinished};
+ghost use Rattle.nd_protocol.specs.Laws.{SentIsLater, SentIsNotPassed, SendIsExact};
 
 use nd_paths::order_is_transitive;
 use std::alloc::Allocator;
@@ -39,6 +40,17 @@ pub fn protocol_is_safe<A: Allocator>()
     ensures before { NothingIsBefore }
     ensures last { NoticeComesLast A }
     ensures finished { FinishedStaysFinished A }
+{
+    order_is_transitive();
+}
+
+/// States that what is sent from a capability is strictly after it, that no view has passed it, if the protocol invariant
+/// holds, and that a send makes one record for each value on each edge of its port and changes nothing else but what its
+/// processor has to send.
+pub fn sends_are_later<A: Allocator>()
+    ensures later { SentIsLater A }
+    ensures not_passed { SentIsNotPassed A }
+    ensures exact { SendIsExact A }
 {
     order_is_transitive();
 }

@@ -1,8 +1,8 @@
 //! Shows that the numbers of a step are in the ranges of their types.
 ghost use Rattle.std.specs.Prelude.{All};
-ghost use Rattle.nd_protocol.specs.Ranges.{IsSmall, TimeIsSmall, TimesAreSmall, NextIsSmall, IsValue, NumbersFit};
+ghost use Rattle.nd_protocol.specs.Ranges.{IsSmall, TimeIsSmall, TimesAreSmall, NextIsSmall, IsValue, BatchIsSmall, NumbersFit};
 
-use crate::{Next, Part, Step, Times};
+use crate::{Batch, Next, Part, Step, Times};
 use nd_paths::Pointstamp;
 use nd_time::Timestamp;
 use std::alloc::Allocator;
@@ -12,6 +12,13 @@ fn numbers_are_small(numbers: &[u32])
     ensures { All IsSmall numbers.now }
 {
     let _len = numbers.len();
+}
+
+// Shows that the number fits 32 bits.
+fn is_small(number: u32)
+    ensures { IsSmall number }
+{
+    let _number = number;
 }
 
 // Shows that the number fits 64 bits.
@@ -54,8 +61,23 @@ fn released_times_are_small(times: &Times)
 {
     times_are_small(&times.time);
     if let Some(to) = &times.to {
-        times_are_small(to);
+        times_are_small(&to.time);
     }
+}
+
+// Shows that the numbers of a batch fit their types.
+fn batch_is_small<A: Allocator>(batch: &Batch<A>)
+    ensures { BatchIsSmall batch.now }
+{
+    times_are_small(&batch.time);
+    if let Some(at) = &batch.at {
+        times_are_small(at);
+    }
+    if let Some(dest) = batch.dest {
+        is_small(dest);
+    }
+    is_small(batch.port);
+    are_values(batch.values.as_slice());
 }
 
 // Shows that the epoch to which a token moves fits 32 bits.
@@ -95,6 +117,10 @@ impl<A: Allocator> Step<A> {
             Step::Release { p, times, .. } => {
                 let _p = *p;
                 released_times_are_small(times.get());
+            }
+            Step::Send { p, batch, .. } => {
+                let _p = *p;
+                batch_is_small(batch.get());
             }
             Step::Broadcast { p, part: Part::All } => {
                 let _p = *p;

@@ -46,10 +46,14 @@ pub enum Refusal {
     QueueEmpty,
     #[error("a queue is full")]
     QueueFull,
-    #[error("a hold vertex is never notified")]
+    #[error("the vertex is never notified")]
     NotNotified,
     #[error("the time is not strictly later")]
     NotLater,
+    #[error("the vertex has no such port")]
+    NoPort,
+    #[error("the time is before that of the capability")]
+    TooEarly,
     #[error("out of memory")]
     Memory,
 }
@@ -84,6 +88,8 @@ impl Refusal {
             Refusal::QueueFull => Refusal::QueueFull,
             Refusal::NotNotified => Refusal::NotNotified,
             Refusal::NotLater => Refusal::NotLater,
+            Refusal::NoPort => Refusal::NoPort,
+            Refusal::TooEarly => Refusal::TooEarly,
             Refusal::Memory => Refusal::Memory,
         }
     }
@@ -113,6 +119,8 @@ impl Refusal {
             Refusal::QueueFull => Code::new(18, "QueueFull"),
             Refusal::NotNotified => Code::new(53, "NotNotified"),
             Refusal::NotLater => Code::new(54, "NotLater"),
+            Refusal::NoPort => Code::new(55, "NoPort"),
+            Refusal::TooEarly => Code::new(56, "TooEarly"),
             Refusal::Memory => Code::new(19, "Memory"),
         }
     }

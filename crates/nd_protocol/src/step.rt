@@ -1,7 +1,7 @@
 //! The steps that a cluster can execute.
 ghost use Rattle.std.specs.Prelude.{◌≡◌, ◌≢◌, IfOk, MatchBool};
 
-use crate::{BoxedTimes, Part, Values};
+use crate::{BoxedBatch, BoxedTimes, Part, Values};
 use nd_time::Timestamp;
 use std::alloc::{AllocError, Allocator, Global};
 
@@ -41,11 +41,18 @@ pub enum Step<A: Allocator = Global> {
         vertex: usize,
         time: Timestamp,
     },
-    /// Drops a capability that a hold vertex holds, or moves it to a later time.
+    /// Drops a capability that a hold or opaque vertex holds, moves it to a later time, or keeps it beside one at a
+    /// later time.
     Release {
         p: u32,
         vertex: usize,
         times: BoxedTimes<A>,
+    },
+    /// Sends values from a capability that an opaque vertex holds.
+    Send {
+        p: u32,
+        vertex: usize,
+        batch: BoxedBatch<A>,
     },
     /// Sends a part of the unsent change to every processor.
     Broadcast {
@@ -62,6 +69,8 @@ pub enum Step<A: Allocator = Global> {
 impl<A: Allocator> Step<A> {
     /// Returns an equal step.
     pub fn copy(&self, alloc: A) -> Result<Step<A>, AllocError>
+    where
+        A: Copy,
         ensures { IfOk result (λ x. x ≡ self.now) }
     {
         match self {
@@ -96,6 +105,11 @@ impl<A: Allocator> Step<A> {
                 p: *p,
                 vertex: *vertex,
                 times: times.copy(alloc)?,
+            }),
+            Step::Send { p, vertex, batch } => Ok(Step::Send {
+                p: *p,
+                vertex: *vertex,
+                batch: batch.copy(alloc)?,
             }),
             Step::Broadcast { p, part } => Ok(Step::Broadcast {
                 p: *p,
@@ -156,6 +170,14 @@ impl<A: Allocator> Step<A> {
                     times: others,
                 },
             ) => *p == *q && *vertex == *held && times.same(others),
+            (
+                Step::Send { p, vertex, batch },
+                Step::Send {
+                    p: q,
+                    vertex: sender,
+                    batch: other,
+                },
+            ) => *p == *q && *vertex == *sender && batch.same(other),
             (Step::Broadcast { p, part }, Step::Broadcast { p: q, part: other }) => {
                 *p == *q && part.same(other)
             }

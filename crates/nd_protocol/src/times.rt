@@ -1,18 +1,49 @@
 //! The times of a capability that is released.
 ghost use Rattle.std.specs.Prelude.{◌≡◌, ◌≢◌, IfOk, MatchBool};
+ghost use Rattle.nd_protocol.specs.Times.{is_kept};
 
 use nd_time::Timestamp;
 use std::alloc::{AllocError, Allocator, Global};
 use std::marker::Model;
 
+/// A later time at which a capability is held after a release.
+#[derive(Debug, PartialEq, Eq, Drop)]
+pub struct Later {
+    pub time: Timestamp,
+    /// Whether the capability at the earlier time stays beside it.
+    pub keep: bool,
+}
+
+impl Later {
+    /// Returns an equal later time.
+    pub fn copy(&self) -> Later
+        ensures { result ≡ self.now }
+    {
+        Later {
+            time: self.time.copy(),
+            keep: self.keep,
+        }
+    }
+}
+
 /// The time at which a capability is held, and the later time to which it moves; `None` if it is dropped.
 #[derive(Debug, PartialEq, Eq, Drop)]
 pub struct Times {
     pub time: Timestamp,
-    pub to: Option<Timestamp>,
+    pub to: Option<Later>,
 }
 
 impl Times {
+    /// Returns whether the capability stays beside one at a later time.
+    pub fn keeps(&self) -> bool
+        ensures { result ≡ is_kept self.now.to }
+    {
+        match &self.to {
+            Some(to) => to.keep,
+            None => false,
+        }
+    }
+
     /// Returns equal times.
     pub fn copy(&self) -> Times
         ensures { result ≡ self.now }

@@ -21,6 +21,8 @@ pub struct Receipt<A: Allocator = Global> {
 impl<A: Allocator> Receipt<A> {
     /// Returns an equal receipt.
     pub fn copy(&self, alloc: A) -> Result<Receipt<A>, AllocError>
+    where
+        A: Copy,
         ensures { IfOk result (λ r. r ≡ self.now) }
     {
         Ok(Receipt {

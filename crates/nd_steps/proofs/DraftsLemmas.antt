@@ -1,5 +1,5 @@
 -- Changes in the order of their places, joined: they add the same, and no place occurs twice.
-use Rattle.std.proofs.Common.{◌≡◌, ◌≢◌, ◌<◌, ◌≤◌, ◌+◌, ℕ, zero, suc, ℤ, pos, negsuc, ◌+ℤ◌, Bool, true, false, cond, List, [], ◌∷◌, ◌++◌, map, take, drop, drop-cons, length, get_or, append_assoc, refl, sym, ap, subst, ◌∙◌, arith, true≢false, Ordering, Less, Equal, Greater}
+use Rattle.std.proofs.Common.{◌≡◌, ◌≢◌, ◌<◌, ◌≤◌, ◌+◌, ℕ, zero, suc, ℤ, pos, negsuc, ◌+ℤ◌, Bool, true, false, cond, List, [], ◌∷◌, ◌++◌, map, take, drop, drop-cons, Option, length, get_or, append_assoc, refl, sym, ap, subst, ◌∙◌, arith, true≢false, Ordering, Less, Equal, Greater}
 use Rattle.std.specs.List.Sorted.{IsPermutation, IsSorted}
 use Rattle.std.specs.Ordering.{is_lt, is_eq, ordering_reverse}
 use Rattle.std.proofs.lemmas.Int.{ints}
@@ -237,16 +237,16 @@ module _ (p q : ℕ) (now new all : List Change) (same : q ≡ p) where
         let step : drop i xs ≡ x ∷ drop (i + 1) xs = drop-cons xs i x lt ∙ (λ j. sym is j ∷ drop (one j) xs) in
         arrivals_more p q (f x) (flat_map f (drop (i + 1) xs)) now new all same pushed (ap (λ ys. now ++ arrivals p (flat_map f ys)) (sym step) ∙ so_far)
 
-  module _ (n m vertex : ℕ) (e : Emission) (l : ℕ) (edges : List Edge) (i : ℕ) (edge : Edge) (lt : i < length edges) (is : edge ≡ get_or edges i edge) where
+  module _ (dest : Option ℕ) (n m vertex : ℕ) (e : Emission) (l : ℕ) (edges : List Edge) (i : ℕ) (edge : Edge) (lt : i < length edges) (is : edge ≡ get_or edges i edge) where
     abbrev those : ℕ → List Edge → List (ℕ × ValueAt)
-    those k es = made_on n m vertex e.port e.value e.time k es
+    those k es = made_on dest n m vertex e.port e.value e.time k es
 
-    pub edge_more : new ≡ now ++ arrivals q (made_along n m vertex e (l + i) edge) → now ++ arrivals p (those (l + i) (drop i edges)) ≡ all → new ++ arrivals p (those (l + (i + 1)) (drop (i + 1) edges)) ≡ all
+    pub edge_more : new ≡ now ++ arrivals q (made_along dest n m vertex e (l + i) edge) → now ++ arrivals p (those (l + i) (drop i edges)) ≡ all → new ++ arrivals p (those (l + (i + 1)) (drop (i + 1) edges)) ≡ all
     edge_more pushed so_far =
         let one : suc i ≡ i + 1 = omega arith in
         let on : (l + i) + 1 ≡ l + (i + 1) = omega arith in
         let step : drop i edges ≡ edge ∷ drop (i + 1) edges = drop-cons edges i edge lt ∙ (λ j. sym is j ∷ drop (one j) edges) in
-        arrivals_more p q (made_along n m vertex e (l + i) edge) (those (l + (i + 1)) (drop (i + 1) edges)) now new all same pushed
-        (ap (λ k. now ++ arrivals p (made_along n m vertex e (l + i) edge ++ those k (drop (i + 1) edges))) (sym on)
+        arrivals_more p q (made_along dest n m vertex e (l + i) edge) (those (l + (i + 1)) (drop (i + 1) edges)) now new all same pushed
+        (ap (λ k. now ++ arrivals p (made_along dest n m vertex e (l + i) edge ++ those k (drop (i + 1) edges))) (sym on)
         ∙ ap (λ es. now ++ arrivals p (those (l + i) es)) (sym step)
         ∙ so_far)

@@ -1,5 +1,5 @@
 -- A feed: the input's token moves, and its values become records.
-use Rattle.std.proofs.Common.{lit<, ◌≡◌, ◌<◌, ◌≤◌, ◌^◌, ℕ, ℤ, List, length, Some, unwrap_or, lt_of_not-le, refl, sym, ap, subst, ◌∙◌}
+use Rattle.std.proofs.Common.{lit<, ◌≡◌, ◌<◌, ◌≤◌, ◌^◌, ℕ, ℤ, List, length, Some, None, unwrap_or, lt_of_not-le, refl, sym, ap, subst, ◌∙◌}
 use Rattle.std.specs.List.{flat_map}
 use Rattle.std.specs.FinMap as fin
 use Rattle.nd_time.specs.Limits.{max_counter}
@@ -16,18 +16,18 @@ use Rattle.nd_protocol.specs.declared.step.Step.{Step}
 use Rattle.nd_protocol.specs.declared.step.Step.TheVariants.{Feed}
 use Rattle.nd_protocol.specs.declared.step.Next.{Next as Afterwards}
 use Rattle.nd_protocol.specs.declared.step.Next.TheVariants as token
-use Rattle.nd_steps.specs.Drafts.{Has, Leads, AreJoined, arrivals, fed_by, token_changes, fed_changes}
+use Rattle.nd_steps.specs.Drafts.{Has, Leads, AreJoined, values_by, token_changes, fed_changes}
 use Rattle.nd_steps.specs.declared.change.Change.{Change}
 use Rattle.nd_steps.proofs.Destinations.{AreTo-flat, emitted-below}
-use Rattle.nd_steps.proofs.FoundLemmas.{IsSound, sound_more, arrivals_plain, token_sound}
-use Rattle.nd_steps.proofs.ReachedLemmas.{reaches}
+use Rattle.nd_steps.proofs.FoundLemmas.{token_sound}
+use Rattle.nd_steps.proofs.ReachedLemmas.{arrivals_lead}
 use Rattle.nd_steps.proofs.StepMoves.{StepAdds, performs}
 use Rattle.nd_steps.proofs.Writes.{token_moves}
 
 module _ (s : ClusterState) (g : Dataflow) (n p vertex epoch : ℕ) (values : List ℤ) (next : Afterwards)
     (has : Has g n s) (input : op_at g vertex ≡ operator.Input) (held : fin.get (processor s p).tokens vertex ≡ Some epoch) where
   abbrev rs : List (ℕ × ValueAt)
-  rs = fed_by g n p vertex (flat epoch) values
+  rs = values_by None g n p vertex 0 (flat epoch) values
 
   -- the epoch and the records, as the definition of the step says them
   abbrev now : ℕ
@@ -42,7 +42,7 @@ module _ (s : ClusterState) (g : Dataflow) (n p vertex epoch : ℕ) (values : Li
   arrived_is : arrived ≡ rs
   arrived_is =
       (λ i. flat_map (λ v. emitted (has.graph i) (has.count i) p vertex (flat (epoch_is i)) (0, v)) values)
-      ∙ ap (λ o. flat_map (λ v. made_on n p vertex 0 v (time_past o (flat epoch)) (length g.vertices) g.edges) values) input
+      ∙ ap (λ o. flat_map (λ v. made_on None n p vertex 0 v (time_past o (flat epoch)) (length g.vertices) g.edges) values) input
 
   module _ {A : Type 0} where
     abbrev x : Step A
@@ -63,7 +63,4 @@ module _ (s : ClusterState) (g : Dataflow) (n p vertex epoch : ℕ) (values : Li
 
     pub fed_leads : epoch ≤ max_counter → (next ≡ token.Next → epoch < max_counter) → NextIsSmall next → (cs : List Change) → cs ≡ fed_changes p vertex epoch next rs → length cs ≤ 2 ^ 64
         → (ds : List Change) → AreJoined cs ds → Leads s x ds
-    fed_leads fits goes small cs is few ds joins state free =
-        let sound : IsSound s (fed_changes p vertex epoch next rs)
-        = sound_more s (token_changes p vertex epoch next) (arrivals p rs) (token_sound s p vertex epoch next held fits goes small) (arrivals_plain p rs) in
-        reaches s x state (fed_changes p vertex epoch next rs) (adds free) sound cs ds is few joins
+    fed_leads fits goes small = arrivals_lead s x p (token_changes p vertex epoch next) rs (token_sound s p vertex epoch next held fits goes small) (λ state free. adds free)

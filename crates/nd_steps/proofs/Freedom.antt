@@ -1,5 +1,5 @@
 -- A broadcast to which no refusal applies leaves an upright unsent change: whether a point is supported can be decided, and among
--- the points that are not, the first in the list is the least.
+-- the points that are not, the first in the list is the least. What a release or a send needs of its times can be decided, too.
 use Rattle.std.proofs.Common.{◌≡◌, ◌⊎◌, inl, inr, ℕ, zero, suc, ◌<◌, ◌≤◌, ℤ, pos, ◌<ℤ◌, List, length, get_or, Some, refl, sym, ap, subst, ◌∙◌, arith}
 use Rattle.std.specs.Prelude.{Contains}
 use Rattle.std.proofs.lemmas.Bool.{cases_eq}
@@ -11,17 +11,17 @@ use Rattle.nd_paths.specs.declared.point.Pointstamp.{Pointstamp}
 use Rattle.nd_delta.specs.Delta.{DeltaValue, at, entries, minus}
 use Rattle.nd_delta.specs.Least.{IsLeast, AllUpTo, all-points, least-index, place_of}
 use Rattle.nd_delta.specs.Upright.{IsSupported, IsUpright, IsUnsupported}
-use Rattle.nd_processor.specs.Edits.{token_points}
 use Rattle.nd_protocol.specs.State.{ClusterState, processor}
-use Rattle.nd_protocol.specs.Steps.{chosen}
+use Rattle.nd_protocol.specs.Steps.{batch_time, chosen}
 use Rattle.nd_protocol.specs.Ranges.{NumbersFit}
 use Rattle.nd_protocol.specs.Enabled.{Fails, IsEnabled}
 use Rattle.nd_protocol.specs.declared.step.Step.{Step}
-use Rattle.nd_protocol.specs.declared.step.Step.TheVariants.{Release, Broadcast}
+use Rattle.nd_protocol.specs.declared.step.Step.TheVariants.{Release, Send, Broadcast}
 use Rattle.nd_protocol.specs.declared.refusal.Refusal.{Refusal}
-use Rattle.nd_protocol.specs.declared.refusal.Refusal.TheVariants.{NotAdmissible, NotLater}
-use Rattle.nd_steps.proofs.LaterLemmas.{Decided, goes_later}
-use Rattle.nd_steps.proofs.TokensHeld.{leaves_upright, leaves_alone}
+use Rattle.nd_protocol.specs.declared.refusal.Refusal.TheVariants.{NotAdmissible, NotLater, TooEarly}
+use Rattle.nd_steps.specs.Refused.{supporting_points}
+use Rattle.nd_steps.proofs.LaterLemmas.{Decided, not_early, goes_later}
+use Rattle.nd_steps.proofs.SupportLemmas.{leaves_upright, leaves_alone}
 
 less : (i j : ℤ) → Decided (i <ℤ j)
 less i j = by_lt_z i j (λ h. inl h) (λ h. inr (λ k. absurd (omega (arith, ints, h, k))))
@@ -109,10 +109,11 @@ enabled g decided s (Broadcast p part) is numbers free =
     let order : (y x : Pointstamp) → Decided (IsStrictlyBefore s.graph y x) = subst (λ h. (y x : Pointstamp) → Decided (IsStrictlyBefore h y x)) (sym is) decided in
     record {
       free = free;
-      admissible = leaves_upright s.graph q c (minus q.unsent c) (token_points q) refl refl
-          (upright (IsStrictlyBefore s.graph) order (minus q.unsent c) (token_points q)
-          (λ x l. free (NotAdmissible x) (leaves_alone s.graph q c (minus q.unsent c) (token_points q) refl refl (Some x) l)));
+      admissible = leaves_upright s.graph q c (minus q.unsent c) (supporting_points s.graph q) refl refl
+          (upright (IsStrictlyBefore s.graph) order (minus q.unsent c) (supporting_points s.graph q)
+          (λ x l. free (NotAdmissible x) (leaves_alone s.graph q c (minus q.unsent c) (supporting_points s.graph q) refl refl (Some x) l)));
       numbers = numbers;
     }
 enabled g decided s (Release p vertex times) is numbers free = record { free = free; admissible = goes_later times.time times.to (free NotLater); numbers = numbers }
+enabled g decided s (Send p vertex batch) is numbers free = record { free = free; admissible = not_early batch.time (batch_time batch) (free TooEarly); numbers = numbers }
 enabled g decided s x is numbers free = record { free = free; admissible = tt; numbers = numbers }

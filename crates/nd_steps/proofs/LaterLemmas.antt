@@ -1,4 +1,4 @@
--- Whether a time is strictly after another can be decided.
+-- Whether a time is at or after another, and whether it is strictly after it, can be decided.
 use Rattle.std.proofs.Common.{◌≡◌, ◌⊎◌, inl, inr, ℕ, ◌≤◌, Bool, true, false, Option, Some, None, length, IsTrue, ◌↔◌, refl, sym, ap, ◌∙◌, arith, true≢false}
 use Rattle.std.proofs.lemmas.Bool.{cases_eq, cases_lt}
 use Rattle.std.proofs.lemmas.Cmp.{tied_itself}
@@ -9,6 +9,7 @@ use Rattle.nd_time.specs.Time.{Time, IsAtOrBefore}
 use Rattle.nd_time.specs.Lexical.{decided}
 use Rattle.nd_time.specs.Listing.{time_cmp, time_total, time_exact}
 use Rattle.nd_protocol.specs.Times.{GoesLater}
+use Rattle.nd_protocol.specs.declared.times.Later.{Later}
 
 abbrev pub Decided : Type 0 → Type 0
 Decided P = P ⊎ (P → ⊥)
@@ -37,13 +38,17 @@ same s t =
       (λ e. ap (eq_by_cmp time_cmp s) (sym e) ∙ ap is_eq (tied_itself time_total s)),
     )
 
+-- a time is at or before another, if it is false that it is not
+pub not_early : (s t : Time) → ((IsAtOrBefore s t → ⊥) → ⊥) → IsAtOrBefore s t
+not_early s t h = elim (before s t) [ inl early ↦ early | inr never ↦ absurd (h never) ]
+
 -- a capability goes to a later time, if it is false that it does not
-pub goes_later : (t : Time) (to : Option Time) → ((GoesLater t to → ⊥) → ⊥) → GoesLater t to
+pub goes_later : (t : Time) (to : Option Later) → ((GoesLater t to → ⊥) → ⊥) → GoesLater t to
 goes_later t None h = tt
 goes_later t (Some to) h =
-    elim (before t to) [
+    elim (before t to.time) [
       | inr never ↦ absurd (h (λ l. never l.0))
-      | inl early ↦ elim (same t to) [
+      | inl early ↦ elim (same t to.time) [
         | inl e ↦ absurd (h (λ l. l.1 e))
         | inr apart ↦ (early, apart)
       ]

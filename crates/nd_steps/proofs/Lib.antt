@@ -15,6 +15,7 @@ pub mod Destinations
 pub mod DraftsLemmas
 pub mod FoundLemmas
 pub mod Feeds
+pub mod Posts
 pub mod Notices
 pub mod Releases
 pub mod Moves
@@ -29,7 +30,7 @@ pub mod Ends
 pub mod Freedom
 pub mod LaterLemmas
 pub mod PartsSent
-pub mod TokensHeld
+pub mod SupportLemmas
 pub mod ReceivedLemmas
 pub mod SentLemmas
 pub mod EffectLemmas

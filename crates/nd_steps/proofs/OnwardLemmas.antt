@@ -1,5 +1,5 @@
 -- The changes of a take with at most one consequence lead to the state after it.
-use Rattle.std.proofs.Common.{◌≡◌, ◌≢◌, ◌<◌, ◌≤◌, ◌+◌, ◌^◌, ℕ, ℤ, pos, negsuc, All, Bool, true, false, cond, ◌&&◌, List, [], ◌∷◌, ◌++◌, map, length, get_or, nat_eq, nat_lt, inl, inr, lit<, length-append, refl, sym, ap, subst, ◌∙◌, arith}
+use Rattle.std.proofs.Common.{◌≡◌, ◌≢◌, ◌<◌, ◌≤◌, ◌+◌, ◌^◌, ℕ, ℤ, pos, negsuc, All, Bool, true, false, cond, ◌&&◌, None, List, [], ◌∷◌, ◌++◌, map, length, get_or, nat_eq, nat_lt, inl, inr, lit<, length-append, refl, sym, ap, subst, ◌∙◌, arith}
 use Rattle.std.specs.Prelude.{if◌then◌else◌}
 use Rattle.std.proofs.lemmas.Bool.{cases_lt, lt-ltb}
 use Rattle.std.proofs.lemmas.List.{length-map}
@@ -40,14 +40,14 @@ use Rattle.nd_steps.proofs.Takes.{taken_leads}
 -- ---- the one edge that leaves a port
 
 made_leaving : (n p vertex port : ℕ) (v : ℤ) (t : Time) (l i : ℕ) (es : List Edge)
-    → made_on n p vertex port v t (l + i) es ≡ map (λ (r : ℕ × Route). (destination r.1 n p v, record_key (l + r.0) t v)) (leaving vertex port i es)
+    → made_on None n p vertex port v t (l + i) es ≡ map (λ (r : ℕ × Route). (destination r.1 n p v, record_key (l + r.0) t v)) (leaving vertex port i es)
 made_leaving n p vertex port v t l i [] = refl
 made_leaving n p vertex port v t l i (e ∷ es) =
     let on : (l + i) + 1 ≡ l + (i + 1) = omega arith in
-    let rest : made_on n p vertex port v t ((l + i) + 1) es ≡ map (λ (r : ℕ × Route). (destination r.1 n p v, record_key (l + r.0) t v)) (leaving vertex port (i + 1) es)
-    = ap (λ k. made_on n p vertex port v t k es) on ∙ made_leaving n p vertex port v t l (i + 1) es in
+    let rest : made_on None n p vertex port v t ((l + i) + 1) es ≡ map (λ (r : ℕ × Route). (destination r.1 n p v, record_key (l + r.0) t v)) (leaving vertex port (i + 1) es)
+    = ap (λ k. made_on None n p vertex port v t k es) on ∙ made_leaving n p vertex port v t l (i + 1) es in
     elim (nat_eq e.from vertex && nat_eq e.port port)
-    as (λ b. (if b then (destination e.route n p v, record_key (l + i) t v) ∷ [] else []) ++ made_on n p vertex port v t ((l + i) + 1) es
+    as (λ b. (if b then (destination e.route n p v, record_key (l + i) t v) ∷ [] else []) ++ made_on None n p vertex port v t ((l + i) + 1) es
     ≡ map (λ (r : ℕ × Route). (destination r.1 n p v, record_key (l + r.0) t v)) ((if b then (i, e.route) ∷ [] else []) ++ leaving vertex port (i + 1) es)) [
       | true ↦ ap (λ rs. (destination e.route n p v, record_key (l + i) t v) ∷ rs) rest
       | false ↦ rest
@@ -64,7 +64,7 @@ module _ (g : Dataflow) (n p vertex : ℕ) (e : Emission) where
   all_made : made_by g n p vertex e ≡ map (on_edge g n p e) leave
   all_made =
       let start : length g.vertices ≡ length g.vertices + 0 = omega arith in
-      ap (λ k. made_on n p vertex e.port e.value e.time k g.edges) start ∙ made_leaving n p vertex e.port e.value e.time (length g.vertices) 0 g.edges
+      ap (λ k. made_on None n p vertex e.port e.value e.time k g.edges) start ∙ made_leaving n p vertex e.port e.value e.time (length g.vertices) 0 g.edges
 
   pub one_made : (r : ℕ × Route) → leave ≡ r ∷ [] → (to edge : ℕ) → to ≡ destination r.1 n p e.value → edge ≡ length g.vertices + r.0 → made_by g n p vertex e ≡ (to, record_key edge e.time e.value) ∷ []
   one_made r only to edge to_is edge_is = all_made ∙ ap (map (on_edge g n p e)) only ∙ (λ i. (sym to_is i, record_key (sym edge_is i) e.time e.value) ∷ [])

@@ -1,9 +1,11 @@
 -- The joined list of the changes that a plan finds reaches the state after the step.
-use Rattle.std.proofs.Common.{◌≡◌, ◌≤◌, ◌^◌, ℕ, ℤ, pos, ◌+ℤ◌, unsigned_abs, true, false, cond, List, [], ◌∷◌, length, get_or, refl, sym, ap, subst, ◌∙◌, arith}
+use Rattle.std.proofs.Common.{◌≡◌, ◌≤◌, ◌^◌, ℕ, ℤ, pos, ◌+ℤ◌, unsigned_abs, true, false, cond, List, [], ◌∷◌, ◌++◌, length, get_or, refl, sym, ap, subst, ◌∙◌, arith}
 use Rattle.std.proofs.lemmas.Int.{ints}
+use Rattle.nd_processor.specs.declared.key.ValueAt.{ValueAt}
 use Rattle.nd_protocol.specs.State.{ClusterState}
 use Rattle.nd_protocol.specs.Steps.{stepped}
 use Rattle.nd_protocol.specs.Fitting.{IsState}
+use Rattle.nd_protocol.specs.Enabled.{IsFreeBelow}
 use Rattle.nd_protocol.specs.declared.step.Step.{Step}
 use Rattle.nd_steps.specs.Places.{Place, place_at, view_of}
 use Rattle.nd_steps.specs.Slots.{SlotRanged}
@@ -13,14 +15,14 @@ use Rattle.nd_steps.specs.Undone.{IsGain}
 use Rattle.nd_steps.specs.Plans.{total_at, Each, StaysRanged, Reaches}
 use Rattle.nd_steps.specs.Places.{is_place}
 use Rattle.nd_steps.proofs.AlikeLemmas.{same_place, same_slot}
-use Rattle.nd_steps.specs.Drafts.{AreJoined}
+use Rattle.nd_steps.specs.Drafts.{Leads, AreJoined, arrivals}
 use Rattle.nd_steps.specs.declared.change.Change.{Change}
 use Rattle.nd_steps.specs.declared.slot.Slot.{Slot}
 use Rattle.nd_steps.specs.declared.slot.Slot.TheVariants.{Token, State}
 use Rattle.nd_steps.proofs.EachLemmas.{each_from, gain_alone}
 use Rattle.nd_steps.proofs.LimitsLemmas.{slot_within, holds_at}
 use Rattle.nd_steps.proofs.StepMoves.{StepAdds, standing-stepped, processors-stepped, items-stepped}
-use Rattle.nd_steps.proofs.FoundLemmas.{IsRanged, IsOne, IsSound}
+use Rattle.nd_steps.proofs.FoundLemmas.{IsRanged, IsOne, IsSound, sound_more, arrivals_plain}
 
 -- ---- what is added at one place
 
@@ -91,3 +93,11 @@ module _ {A : Type 0} (s : ClusterState) (x : Step A) (state : IsState s) (found
     ranged = each_by (StaysRanged s) (λ c e. subst (λ z. SlotRanged c.slot (standing s (place_of c) +ℤ z)) e (ranged_then s state found sound c.p c.slot));
     totals = λ k. standing-stepped s x found adds k ∙ ap (λ z. standing s k +ℤ z) (sym (totals k));
   }
+
+-- ---- a step whose last changes are those of records that arrive
+
+module _ {A : Type 0} (s : ClusterState) (x : Step A) (p : ℕ) (own : List Change) (rs : List (ℕ × ValueAt)) (sound : IsSound s own)
+    (adds : IsState s → IsFreeBelow s x 13 → StepAdds s x (own ++ arrivals p rs)) where
+  pub arrivals_lead : (cs : List Change) → cs ≡ own ++ arrivals p rs → length cs ≤ 2 ^ 64 → (ds : List Change) → AreJoined cs ds → Leads s x ds
+  arrivals_lead cs is few ds joins state free =
+      reaches s x state (own ++ arrivals p rs) (adds state free) (sound_more s own (arrivals p rs) sound (arrivals_plain p rs)) cs ds is few joins

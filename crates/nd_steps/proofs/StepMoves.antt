@@ -1,7 +1,7 @@
 -- A step of processor p adds what its changes say: p is written, and then each record arrives at
 -- its processor.
 --     AreWritten                      the processors before and after
---     performs                        p is written, and records arrive
+--     arrive, performs                records arrive; p is written, and records arrive
 --     StepAdds, standing-stepped      the step
 use Rattle.std.proofs.Common.{◌≡◌, ◌≢◌, inl, inr, ℕ, ◌<◌, pos, ◌+ℤ◌, cond, List, [], ◌∷◌, ◌++◌, length, refl, sym, ap, subst, ◌∙◌, arith, length-set, get_or-set_same, get_or-set_other}
 use Rattle.std.proofs.lemmas.Int.{ints}
@@ -106,7 +106,7 @@ abbrev pub AreTo : ℕ → List (ℕ × ValueAt) → Type 0
 AreTo n [] = Unit {0}
 AreTo n (r ∷ rs) = (r.0 < n) × AreTo n rs
 
-arrive : (p : ℕ) (qs : List ProcessorState) (rs : List (ℕ × ValueAt)) → AreTo (length qs) rs → AreWritten p qs (with_records qs rs) (arrivals p rs)
+pub arrive : (p : ℕ) (qs : List ProcessorState) (rs : List (ℕ × ValueAt)) → AreTo (length qs) rs → AreWritten p qs (with_records qs rs) (arrivals p rs)
 arrive p qs [] to = none_written p qs
 arrive p qs (r ∷ rs) to =
     written_then (one_written p r.0 qs _ _ to.0 (record_comes p r.0 (at qs r.0) r.1))

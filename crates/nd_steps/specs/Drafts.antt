@@ -17,10 +17,12 @@ use Rattle.nd_processor.specs.declared.key.SinkKey.{SinkKey}
 use Rattle.nd_processor.specs.declared.key.ValueAt.{ValueAt}
 use Rattle.nd_protocol.specs.Ranges.{IsValue}
 use Rattle.nd_protocol.specs.State.{ClusterState, processor}
-use Rattle.nd_protocol.specs.Steps.{destination, record_key, made_on, target_of, take_outcome, notice_outcome, point_at, stepped}
+use Rattle.nd_protocol.specs.Steps.{directed, record_key, made_on, target_of, take_outcome, notice_outcome, point_at, stepped}
+use Rattle.nd_protocol.specs.Times.{is_kept}
 use Rattle.nd_protocol.specs.Fitting.{IsState}
 use Rattle.nd_protocol.specs.Enabled.{IsFreeBelow}
 use Rattle.nd_protocol.specs.declared.step.Step.{Step}
+use Rattle.nd_protocol.specs.declared.times.Later.{Later}
 use Rattle.nd_protocol.specs.declared.times.Times.{Times}
 use Rattle.nd_protocol.specs.declared.step.Next.{Next as Afterwards}
 use Rattle.nd_protocol.specs.declared.step.Next.TheVariants as token
@@ -79,19 +81,25 @@ pub record AreJoined (cs ds : List Change) : Type 0 where
 -- ---- the records that arrive
 
 -- the record, with its processor, that an emission of a vertex of processor p makes on the edge at location l, if the edge leaves
--- the emission's port
-abbrev pub made_along : ℕ → ℕ → ℕ → Emission → ℕ → Edge → List (ℕ × ValueAt)
-made_along n p vertex e l edge = if nat_eq edge.from vertex && nat_eq edge.port e.port then (destination edge.route n p e.value, record_key l e.time e.value) ∷ [] else []
+-- the emission's port; on an exchange edge it goes to the processor dest, if one is named
+abbrev pub made_along : Option ℕ → ℕ → ℕ → ℕ → Emission → ℕ → Edge → List (ℕ × ValueAt)
+made_along dest n p vertex e l edge =
+    if nat_eq edge.from vertex && nat_eq edge.port e.port then (directed dest edge.route n p e.value, record_key l e.time e.value) ∷ [] else []
 
--- the records that one emission makes; `fed_by` and `emitted_by` are those of the values of a feed, and of several emissions
+-- the records that one emission makes, if it names the processor dest; `made_by` are those of an emission that names none
+abbrev pub made_to : Option ℕ → Dataflow → ℕ → ℕ → ℕ → Emission → List (ℕ × ValueAt)
+made_to dest g n p vertex e = made_on dest n p vertex e.port e.value e.time (length g.vertices) g.edges
+
 abbrev pub made_by : Dataflow → ℕ → ℕ → ℕ → Emission → List (ℕ × ValueAt)
-made_by g n p vertex e = made_on n p vertex e.port e.value e.time (length g.vertices) g.edges
+made_by g n p vertex e = made_to None g n p vertex e
 
-abbrev pub fed_at : Time → ℤ → Emission
-fed_at t v = record { port = 0; time = t; value = v }
+-- a value that goes out on a port at a time, as an emission
+abbrev pub emission_of : ℕ → Time → ℤ → Emission
+emission_of port t v = record { port = port; time = t; value = v }
 
-abbrev pub fed_by : Dataflow → ℕ → ℕ → ℕ → Time → List ℤ → List (ℕ × ValueAt)
-fed_by g n p vertex t values = flat_map (λ v. made_by g n p vertex (fed_at t v)) values
+-- the records of values that go out at once, those of a feed or of a send; `emitted_by` are those of several emissions
+abbrev pub values_by : Option ℕ → Dataflow → ℕ → ℕ → ℕ → ℕ → Time → List ℤ → List (ℕ × ValueAt)
+values_by dest g n p vertex port t values = flat_map (λ v. made_to dest g n p vertex (emission_of port t v)) values
 
 abbrev pub emitted_by : Dataflow → ℕ → ℕ → ℕ → List Emission → List (ℕ × ValueAt)
 emitted_by g n p vertex es = flat_map (made_by g n p vertex) es
@@ -134,17 +142,21 @@ noticed_changes p x effect rs =
     ++ item_changes p x.location effect.items.items)
     ++ arrivals p rs
 
+-- the changes of the request that a release gives up; none if it is kept
+abbrev pub gone_changes : ℕ → ℕ → Times → List Change
+gone_changes p vertex times =
+    let x = point_at vertex times.time in
+    cond (is_kept times.to) [] (at_key p (Request x) (negsuc 0) ∷ at_key p (Unsent x) (negsuc 0) ∷ [])
+
 -- the changes of a release's later request; none if there is no new request
-abbrev pub later_changes : ℕ → ℕ → Option Time → Bool → List Change
+abbrev pub later_changes : ℕ → ℕ → Option Later → Bool → List Change
 later_changes p vertex None asks = []
-later_changes p vertex (Some to) asks = ask_changes p (point_at vertex to) asks
+later_changes p vertex (Some to) asks = ask_changes p (point_at vertex to.time) asks
 
 abbrev pub released_changes : ℕ → ℕ → Times → Bool → List Change
-released_changes p vertex times asks =
-    let x = point_at vertex times.time in
-    at_key p (Request x) (negsuc 0) ∷ at_key p (Unsent x) (negsuc 0) ∷ later_changes p vertex times.to asks
+released_changes p vertex times asks = gone_changes p vertex times ++ later_changes p vertex times.to asks
 
--- ---- what determines the changes of a feed, a take, a notice and a release
+-- ---- what determines the changes of a feed, a take, a notice, a release and a send
 
 -- the changes lead from s to the state after the step x, if x passes all tests before those of the limits
 abbrev pub Leads : {A : Type 0} → ClusterState → Step A → List Change → Type 0
@@ -166,12 +178,16 @@ pub record NoticesSo {A : Type 0} (s : ClusterState) (p : ℕ) (x : Pointstamp) 
   pub asked : fin.get (processor s p).requests x ≡ Some tt
   pub does : IsEffect (items_at (processor s p) x.location) (op_at s.graph x.location) x.time (notice_outcome s p x.location x.time) effect
 
+-- the requests that are left once the released one is removed, unless it is kept
+abbrev pub left_by : Requests → ℕ → Times → Requests
+left_by requests vertex times = cond (is_kept times.to) requests (fin.remove requests (point_at vertex times.time))
+
 -- whether a release makes a later request that is not among those that are left
-abbrev pub asks_later : Requests → ℕ → Option Time → Bool
+abbrev pub asks_later : Requests → ℕ → Option Later → Bool
 asks_later left vertex None = false
-asks_later left vertex (Some to) = is_none (fin.get left (point_at vertex to))
+asks_later left vertex (Some to) = is_none (fin.get left (point_at vertex to.time))
 
 -- processor p holds the capability that is released, and `asks` says whether the release makes a request that was not there
 pub record ReleasesSo (s : ClusterState) (p vertex : ℕ) (times : Times) (asks : Bool) : Type 0 where
   pub asked : fin.get (processor s p).requests (point_at vertex times.time) ≡ Some tt
-  pub anew : asks ≡ asks_later (fin.remove (processor s p).requests (point_at vertex times.time)) vertex times.to
+  pub anew : asks ≡ asks_later (left_by (processor s p).requests vertex times) vertex times.to

@@ -2,7 +2,7 @@
 use Rattle.std.specs.Prelude.{ℕ, ℤ, pos, negsuc, ◌-ℤ◌, cond, nat_eq, List, [], ◌∷◌, ◌++◌, length, map}
 use Rattle.nd_protocol.specs.Steps.{flat, point_at, record_key}
 use Rattle.nd_protocol.specs.declared.step.Step.{Step}
-use Rattle.nd_protocol.specs.declared.step.Step.TheVariants.{Feed, Take, Notice, Release, Broadcast, Receive}
+use Rattle.nd_protocol.specs.declared.step.Step.TheVariants.{Feed, Take, Notice, Release, Send, Broadcast, Receive}
 use Rattle.nd_steps.specs.Changes.{at_key}
 use Rattle.nd_steps.specs.Drafts.{some_of}
 use Rattle.nd_steps.specs.declared.change.Change.{Change}
@@ -15,6 +15,7 @@ values_of (Feed p vertex values _) = values
 values_of (Take p edge t value) = []
 values_of (Notice p vertex t) = []
 values_of (Release p vertex times) = []
+values_of (Send p vertex batch) = []
 values_of (Broadcast p part) = []
 values_of (Receive from to) = []
 
@@ -42,6 +43,7 @@ rest_of (Feed p vertex values _) f = moved f p vertex (length values)
 rest_of (Take p edge t value) f = []
 rest_of (Notice p vertex t) f = []
 rest_of (Release p vertex times) f = []
+rest_of (Send p vertex batch) f = []
 rest_of (Broadcast p part) f = []
 rest_of (Receive from to) f = []
 

@@ -7,7 +7,7 @@ use Rattle.nd_graph.specs.declared.op.Action.TheVariants.{Identity, Ingress, Egr
 use Rattle.nd_processor.specs.declared.key.ValueAt.{ValueAt}
 use Rattle.nd_protocol.specs.Steps.{record_key}
 use Rattle.nd_protocol.specs.declared.step.Step.{Step}
-use Rattle.nd_protocol.specs.declared.step.Step.TheVariants.{Feed, Take, Notice, Release, Broadcast, Receive}
+use Rattle.nd_protocol.specs.declared.step.Step.TheVariants.{Feed, Take, Notice, Release, Send, Broadcast, Receive}
 use Rattle.nd_steps.specs.Changes.{at_key}
 use Rattle.nd_steps.specs.declared.change.Change.{Change}
 use Rattle.nd_steps.specs.declared.slot.Slot.TheVariants.{Records, Sink, Unsent}
@@ -54,5 +54,6 @@ told_changes (Feed p vertex values _) f = []
 told_changes (Take p edge t value) f = flow_changes p (record_key edge t value) f
 told_changes (Notice p vertex t) f = []
 told_changes (Release p vertex times) f = []
+told_changes (Send p vertex batch) f = []
 told_changes (Broadcast p part) f = []
 told_changes (Receive from to) f = []

@@ -1,5 +1,5 @@
 -- The changes of a performer's step as they are found, and where they lead.
-use Rattle.std.specs.Prelude.{◌≡◌, ◌≢◌, ℕ, ◌++◌, Bool, false, List, [], ◌∷◌, Some, ⊤}
+use Rattle.std.specs.Prelude.{◌≡◌, ◌≢◌, ℕ, ◌++◌, Bool, false, List, [], ◌∷◌, Some, None, ⊤}
 use Rattle.std.specs.FinMap as fin
 use Rattle.nd_time.specs.Time.{Time}
 use Rattle.nd_graph.specs.declared.op.Action.{Action}
@@ -8,10 +8,11 @@ use Rattle.nd_vertex.specs.declared.effect.Effect.{Effect}
 use Rattle.nd_vertex.specs.declared.effect.Emission.{Emission}
 use Rattle.nd_processor.specs.declared.key.ValueAt.{ValueAt}
 use Rattle.nd_protocol.specs.State.{ClusterState, processor}
-use Rattle.nd_protocol.specs.Steps.{destination, flat, point_at}
+use Rattle.nd_protocol.specs.Steps.{batch_time, destination, flat, point_at}
+use Rattle.nd_protocol.specs.declared.batch.Batch.{Batch}
 use Rattle.nd_protocol.specs.declared.times.Times.{Times}
-use Rattle.nd_protocol.specs.declared.step.Step.TheVariants.{Feed, Take, Notice, Release}
-use Rattle.nd_steps.specs.Drafts.{Has, Leads, TakesSo, NoticesSo, ReleasesSo, arrivals, made_by, emitted_by, fed_by, fed_changes, taken_changes, noticed_changes, released_changes}
+use Rattle.nd_protocol.specs.declared.step.Step.TheVariants.{Feed, Take, Notice, Release, Send}
+use Rattle.nd_steps.specs.Drafts.{Has, Leads, TakesSo, NoticesSo, ReleasesSo, arrivals, made_by, emitted_by, values_by, fed_changes, taken_changes, noticed_changes, released_changes}
 use Rattle.nd_steps.specs.Flows.{come_changes}
 use Rattle.nd_steps.specs.Onward.{ComesBy}
 use Rattle.nd_steps.specs.declared.change.Change.{Change}
@@ -35,9 +36,9 @@ AddsRecords old new rs = Adds old new (arrivals old.p rs)
 
 -- ---- the changes that are found
 
--- the changes of a feed; the next three are those of a take, of a notice and of a release
+-- the changes of a feed; the next four are those of a take, of a notice, of a release and of a send
 abbrev pub found_fed : {B : Type 0} → Performer B → Fed → List Change
-found_fed by fed = fed_changes by.p by.vertex fed.epoch fed.next (fed_by by.graph.now by.n by.p by.vertex (flat fed.epoch) fed.values.now)
+found_fed by fed = fed_changes by.p by.vertex fed.epoch fed.next (values_by None by.graph.now by.n by.p by.vertex 0 (flat fed.epoch) fed.values.now)
 
 abbrev pub found_taken : {A B : Type 0} → Performer B → Taken A → List Change
 found_taken by taken = taken_changes by.p by.vertex taken.key.now taken.effect.now taken.asks (emitted_by by.graph.now by.n by.p by.vertex taken.effect.now.emits.items)
@@ -47,6 +48,9 @@ found_noticed by t effect = noticed_changes by.p (point_at by.vertex t) effect (
 
 abbrev pub found_released : {B : Type 0} → Performer B → Times → Bool → List Change
 found_released by times asks = released_changes by.p by.vertex times asks
+
+abbrev pub found_posted : {A B : Type 0} → Performer B → Batch A → List Change
+found_posted by batch = arrivals by.p (values_by batch.dest by.graph.now by.n by.p by.vertex batch.port (batch_time batch) batch.values)
 
 -- ---- where changes lead
 
@@ -74,6 +78,10 @@ abbrev pub ReleaseLeads : (A : Type 0) {B : Type 0} → Performer B → Times �
 ReleaseLeads A by times asks cs =
     (s : ClusterState) → Has by.graph.now by.n s → ReleasesSo s by.p by.vertex times asks
     → Leads {A = A} s (Release by.p by.vertex times) cs
+
+-- in each cluster of the performer the changes are those of the send
+abbrev pub PostLeads : {A B : Type 0} → Performer B → Batch A → List Change → Type 0
+PostLeads {A} by batch cs = (s : ClusterState) → Has by.graph.now by.n s → Leads {A = A} s (Send by.p by.vertex batch) cs
 
 -- ---- the consequence of a take
 

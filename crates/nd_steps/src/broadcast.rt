@@ -4,11 +4,13 @@ ghost use Rattle.nd_delta.specs.Delta.{none, part as part_at, IsPartOf};
 ghost use Rattle.nd_protocol.specs.Steps.{chosen};
 ghost use Rattle.nd_protocol.specs.Exchange.{sent};
 ghost use Rattle.nd_protocol.specs.Fitting.{IsState};
-ghost use Rattle.nd_steps.specs.Refused.{LeavesUpright, LeavesAlone, PartFails};
+ghost use Rattle.nd_steps.specs.Refused.{LeavesUpright, LeavesAlone, PartFails, supporting_points as points_that_support};
 ghost use Rattle.nd_steps.specs.Records.{CanSend, Sends, CameFrom, IsBackAt};
 
 use crate::Parts;
+use crate::operator::op_at;
 use nd_delta::{Delta, LargeDelta};
+use nd_graph::Graph;
 use nd_paths::{Paths, Pointstamp};
 use nd_processor::Processor;
 use nd_protocol::{Part, Refusal};
@@ -50,6 +52,26 @@ fn part_of<A: Allocator + Copy>(
     }
 }
 
+// Returns the pointstamps that support what a processor has not sent: those of its tokens, and of the capabilities that it holds
+// at vertices whose capabilities support.
+fn supporting_points<A: Allocator + Copy>(
+    alloc: A,
+    graph: &Graph<A>,
+    processor: &Processor<A>,
+) -> Result<Vec<Pointstamp, A>, AllocError>
+    ensures { IfOk result (λ v. v.items ≡ points_that_support graph.now processor.now) }
+{
+    let Ok(mut points) = processor.token_points(alloc) else {
+        return Err(AllocError);
+    };
+    for (point, _) in processor.requests() {
+        if op_at(graph, point.location).supports() {
+            points.push(point.copy())?;
+        }
+    }
+    Ok(points)
+}
+
 // Returns the least pointstamp whose entry would stay without support after `change` is sent.
 fn left_alone<A: Allocator + Copy>(
     alloc: A,
@@ -70,10 +92,8 @@ fn left_alone<A: Allocator + Copy>(
     let Ok(stays) = unsent.without(alloc, change) else {
         return Err(AllocError);
     };
-    let Ok(tokens) = processor.token_points(alloc) else {
-        return Err(AllocError);
-    };
-    Ok(stays.unsupported_by(paths, &tokens))
+    let held = supporting_points(alloc, paths.graph(), processor)?;
+    Ok(stays.unsupported_by(paths, &held))
 }
 
 /// Returns the change that a broadcast of `part` sends, or why the broadcast is refused. It doesn't test whether the queues are full.

@@ -1,8 +1,8 @@
 //! The records that vertices make, and the processors that they go to.
 ghost use Rattle.std.specs.Prelude.{◌≡◌, ◌<◌, ◌≤◌, ◌+◌, OnOk, length};
 ghost use Rattle.nd_time.specs.Limits.{max_locations};
-ghost use Rattle.nd_protocol.specs.Steps.{destination as destination_of};
-ghost use Rattle.nd_steps.specs.Drafts.{made_along, made_by, fed_at, fed_by, emitted_by};
+ghost use Rattle.nd_protocol.specs.Steps.{destination as destination_of, directed as directed_to};
+ghost use Rattle.nd_steps.specs.Drafts.{made_along, made_to, emission_of, values_by, emitted_by};
 ghost use Rattle.nd_steps.specs.Performers.{AddsRecords};
 
 use crate::draft::Draft;
@@ -43,6 +43,17 @@ pub(crate) fn destination(route: Route, n: u32, p: u32, value: i64) -> u32
     }
 }
 
+// Returns the same for a record that goes to the processor `dest`, if one is named: on a local edge it stays all the same.
+fn directed(dest: Option<u32>, route: Route, n: u32, p: u32, value: i64) -> u32
+    requires { p < n }
+    ensures { result ≡ directed_to dest route n p value }
+{
+    match (dest, route) {
+        (Some(dest), Route::Exchange) => dest,
+        _ => destination(route, n, p, value),
+    }
+}
+
 // Returns the location of the first edge. The vertices come before it.
 pub(crate) fn first_edge<B: Allocator>(graph: &Graph<B>) -> usize
     ensures first { result ≡ length graph.now.vertices }
@@ -51,9 +62,11 @@ pub(crate) fn first_edge<B: Allocator>(graph: &Graph<B>) -> usize
     graph.location_count() - graph.edges().len()
 }
 
-// Adds the record of an emission on an edge, if the edge leaves the emission's port.
+// Adds the record of an emission on an edge, if the edge leaves the emission's port; `dest` is the processor to which it goes,
+// if one is named.
 fn emit_on<A: Allocator + Copy, B: Allocator>(
     by: &Performer<'_, B>,
+    dest: Option<u32>,
     emission: &Emission,
     location: usize,
     edge: &Edge,
@@ -61,56 +74,71 @@ fn emit_on<A: Allocator + Copy, B: Allocator>(
 ) -> Result<(), AllocError>
     requires { by.now.p < by.now.n }
     ensures { OnOk result (AddsRecords draft.old draft.new
-        (made_along by.now.n by.now.p by.now.vertex emission.now location edge.now)) }
+        (made_along dest by.now.n by.now.p by.now.vertex emission.now location edge.now)) }
 {
     if edge.from != by.vertex || edge.port != emission.port {
         return Ok(());
     }
-    let to = destination(edge.route, by.n, by.p, emission.value);
+    let to = directed(dest, edge.route, by.n, by.p, emission.value);
     draft.add_record(to, record_at(location, &emission.time, emission.value))
 }
 
 // Adds the records of one emission of the vertex: one on each edge that leaves the port.
 fn emit<A: Allocator + Copy, B: Allocator>(
     by: &Performer<'_, B>,
+    dest: Option<u32>,
     emission: &Emission,
     draft: &mut Draft<A>,
 ) -> Result<(), AllocError>
     requires { by.now.p < by.now.n }
     ensures { OnOk result (AddsRecords draft.old draft.new
-        (made_by by.now.graph.now by.now.n by.now.p by.now.vertex emission.now)) }
+        (made_to dest by.now.graph.now by.now.n by.now.p by.now.vertex emission.now)) }
 {
     let first = first_edge(by.graph);
     for (i, edge) in by.graph.edges().iter().enumerate() {
-        emit_on(by, emission, first + i, edge, draft)?;
+        emit_on(by, dest, emission, first + i, edge, draft)?;
     }
     Ok(())
 }
 
-// Returns the emission of a value that is fed at a time.
-fn fed(time: &Timestamp, value: &i64) -> Emission
-    ensures { result ≡ fed_at time.now value.now }
-{
-    Emission {
-        port: 0,
-        time: time.copy(),
-        value: *value,
+/// Values that a vertex sends at once: those of a feed or of a send.
+#[derive(Drop)]
+pub(crate) struct Outgoing<'a> {
+    /// The output port.
+    pub(crate) port: u32,
+    /// The time of the records.
+    pub(crate) time: &'a Timestamp,
+    pub(crate) values: &'a [i64],
+    /// The processor to which records on exchange edges go; `None` if their values choose it.
+    pub(crate) dest: Option<u32>,
+}
+
+impl<'a> Outgoing<'a> {
+    // Returns the emission of one of the values.
+    fn emission(&self, value: &i64) -> Emission
+        ensures { result ≡ emission_of self.now.port self.now.time.now value.now }
+    {
+        Emission {
+            port: self.port,
+            time: self.time.copy(),
+            value: *value,
+        }
     }
 }
 
-// Adds the records of the values that the vertex is fed.
-pub(crate) fn emit_fed<A: Allocator + Copy, B: Allocator>(
+// Adds the records of the values that the vertex sends.
+pub(crate) fn emit_values<A: Allocator + Copy, B: Allocator>(
     by: &Performer<'_, B>,
-    time: &Timestamp,
-    values: &[i64],
+    outgoing: &Outgoing<'_>,
     draft: &mut Draft<A>,
 ) -> Result<(), AllocError>
     requires { by.now.p < by.now.n }
     ensures { OnOk result (AddsRecords draft.old draft.new
-        (fed_by by.now.graph.now by.now.n by.now.p by.now.vertex time.now values.now)) }
+        (values_by outgoing.now.dest by.now.graph.now by.now.n by.now.p by.now.vertex
+        outgoing.now.port outgoing.now.time.now outgoing.now.values.now)) }
 {
-    for value in values {
-        emit(by, &fed(time, value), draft)?;
+    for value in outgoing.values {
+        emit(by, outgoing.dest, &outgoing.emission(value), draft)?;
     }
     Ok(())
 }
@@ -126,7 +154,7 @@ pub(crate) fn emit_all<A: Allocator + Copy, B: Allocator>(
         (emitted_by by.now.graph.now by.now.n by.now.p by.now.vertex emissions.now)) }
 {
     for emission in emissions {
-        emit(by, emission, draft)?;
+        emit(by, None, emission, draft)?;
     }
     Ok(())
 }

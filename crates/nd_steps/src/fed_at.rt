@@ -35,7 +35,7 @@ fn fed_values<A: Allocator>(step: &Step<A>) -> &[i64]
     match step {
         Step::Feed { values, .. } => values.as_slice(),
         Step::Take { .. } | Step::Notice { .. } | Step::Release { .. } => &[],
-        Step::Broadcast { .. } | Step::Receive { .. } => &[],
+        Step::Send { .. } | Step::Broadcast { .. } | Step::Receive { .. } => &[],
     }
 }
 
@@ -143,7 +143,7 @@ impl FedAt {
                 ..
             } => self.moved(*p, *vertex, values.as_slice().len()),
             Step::Take { .. } | Step::Notice { .. } | Step::Release { .. } => ArrayVec::new(),
-            Step::Broadcast { .. } | Step::Receive { .. } => ArrayVec::new(),
+            Step::Send { .. } | Step::Broadcast { .. } | Step::Receive { .. } => ArrayVec::new(),
         }
     }
 

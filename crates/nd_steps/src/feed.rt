@@ -10,7 +10,7 @@ ghost use Rattle.nd_steps.specs.Drafts.{token_changes};
 ghost use Rattle.nd_steps.specs.Performers.{Adds, found_fed, FeedLeads};
 
 use crate::draft::Draft;
-use crate::emit::emit_fed;
+use crate::emit::{Outgoing, emit_values};
 use crate::{Change, Performer, Slot};
 use nd_processor::token_point;
 use nd_protocol::Next;
@@ -88,7 +88,13 @@ fn feed_draft<A: Allocator + Copy, B: Allocator>(
     let mut draft = Draft::new(alloc, by.p);
     add_token(&mut draft, by.vertex, fed.epoch, fed.next)?;
     let time = Timestamp::new(fed.epoch, &[]).unwrap();
-    emit_fed(by, &time, fed.values, &mut draft)?;
+    let outgoing = Outgoing {
+        port: 0,
+        time: &time,
+        values: fed.values,
+        dest: None,
+    };
+    emit_values(by, &outgoing, &mut draft)?;
     Ok(draft)
 }
 

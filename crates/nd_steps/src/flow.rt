@@ -96,7 +96,7 @@ impl Flow {
                 value,
             } => self.changes(*p, record_at(*edge, time, *value)),
             Step::Feed { .. } | Step::Notice { .. } | Step::Release { .. } => ArrayVec::new(),
-            Step::Broadcast { .. } | Step::Receive { .. } => ArrayVec::new(),
+            Step::Send { .. } | Step::Broadcast { .. } | Step::Receive { .. } => ArrayVec::new(),
         }
     }
 }

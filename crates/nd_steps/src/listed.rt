@@ -40,7 +40,7 @@ impl<'a, A: Allocator + Copy> Model for Entries<'a, A> {
     ghost view = { λ a. drop a.next (listed a.source.now) };
 }
 
-// Returns change `i` of a feed, a take or a notice.
+// Returns change `i` of a step other than a broadcast or a receive.
 fn of_step(changes: &Told<'_>, i: usize) -> Option<Entry>
     ensures { result ≡ slice_get (map Entry.Key changes.now) i }
 {

@@ -2,7 +2,6 @@
 ghost use Rattle.std.specs.Prelude.{◌≡◌, ◌≢◌, ◌<◌, ◌+◌, ◌∷◌, [], IfSome, IsNone, IsSome, length};
 ghost use Rattle.std.specs.Ordering.{eq_by_cmp};
 ghost use Rattle.nd_time.specs.Limits.{max_locations};
-ghost use Rattle.nd_graph.specs.Graph.{op_at, action_of};
 ghost use Rattle.nd_paths.specs.Point.{point_cmp};
 ghost use Rattle.nd_steps.specs.Flows.{come_key};
 ghost use Rattle.nd_steps.specs.Onward.{leaving};
@@ -10,8 +9,9 @@ ghost use Rattle.nd_steps.specs.Performers.{coming, ComesFor, PassesOn, FlowLead
 
 use crate::come::Come;
 use crate::emit::{destination, first_edge};
+use crate::operator::op_at;
 use crate::{Performer, Taken};
-use nd_graph::{Action, Edge, Graph, Route};
+use nd_graph::{Action, Edge, Route};
 use nd_paths::Pointstamp;
 use nd_processor::ValueAt;
 use nd_vertex::Emission;
@@ -33,16 +33,6 @@ fn only_edge(edges: &[Edge], vertex: usize, port: u32) -> Option<(usize, Route)>
         }
     }
     only
-}
-
-// Returns what a vertex does to the times that pass through it; a vertex that does not exist does nothing.
-fn action_at<B: Allocator>(graph: &Graph<B>, vertex: usize) -> Action
-    ensures { result ≡ action_of (op_at graph.now vertex) }
-{
-    match graph.vertices().get(vertex) {
-        Some(vertex) => vertex.op.action(),
-        None => Action::Identity,
-    }
 }
 
 // Returns the location of an edge, from that of the first edge and the edge's number.
@@ -98,7 +88,7 @@ fn come_by<B: Allocator>(by: &Performer<'_, B>, gone: &ValueAt, emission: &Emiss
     ensures comes { IfSome result (ComesFor by.now gone.now emission.now) }
     ensures passes { PassesOn by.now gone.now emission.now → IsSome result }
 {
-    let action = action_at(by.graph, by.vertex);
+    let action = op_at(by.graph, by.vertex).action();
     let (i, route) = only_edge(by.graph.edges(), by.vertex, emission.port)?;
     let edge = edge_at(first_edge(by.graph), i);
     let _ = emission.time.depth();

@@ -12,7 +12,7 @@ use std::alloc::{AllocError, Allocator, Global};
 /// The changes of the record of a step.
 #[derive(Drop)]
 pub enum Changes<A: Allocator + Copy = Global> {
-    /// Changes of a feed, a take or a notice: one for each key of a map.
+    /// Changes of a step other than a broadcast or a receive: one for each key of a map.
     Each(Vec<Change, A>),
     /// The part of a take's changes that the step doesn't determine: so small that many steps can be kept.
     Flowed(Flow),

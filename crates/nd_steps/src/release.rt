@@ -1,20 +1,39 @@
-//! The changes of a release: a held capability is dropped, or moves to a later time.
+//! The changes of a release: a held capability is dropped, moves to a later time, or stays beside one at a later time.
 ghost use Rattle.std.specs.Prelude.{◌≡◌, IfOk, OnOk};
-ghost use Rattle.nd_steps.specs.Drafts.{later_changes};
+ghost use Rattle.nd_steps.specs.Drafts.{gone_changes, later_changes};
 ghost use Rattle.nd_steps.specs.Performers.{Adds, found_released, ReleaseLeads};
 
 use crate::draft::Draft;
 use crate::{Change, Performer, Slot};
 use nd_paths::Pointstamp;
-use nd_protocol::Times;
-use nd_time::Timestamp;
+use nd_protocol::{Later, Times};
 use std::alloc::{AllocError, Allocator};
+
+// Removes the request, unless it stays beside one at a later time.
+fn add_gone<A: Allocator + Copy>(
+    draft: &mut Draft<A>,
+    vertex: usize,
+    times: &Times,
+) -> Result<(), AllocError>
+    ensures { OnOk result (Adds draft.old draft.new
+        (gone_changes draft.old.p vertex times.now)) }
+{
+    if times.keeps() {
+        return Ok(());
+    }
+    let point = Pointstamp {
+        location: vertex,
+        time: times.time.copy(),
+    };
+    draft.add(Slot::Request(point.copy()), -1)?;
+    draft.add(Slot::Unsent(point), -1)
+}
 
 // Adds the request at the later time, if there is such a time and the request is new.
 fn add_later<A: Allocator + Copy>(
     draft: &mut Draft<A>,
     vertex: usize,
-    to: &Option<Timestamp>,
+    to: &Option<Later>,
     asks: bool,
 ) -> Result<(), AllocError>
     ensures { OnOk result (Adds draft.old draft.new
@@ -25,12 +44,12 @@ fn add_later<A: Allocator + Copy>(
     };
     let point = Pointstamp {
         location: vertex,
-        time: to.copy(),
+        time: to.time.copy(),
     };
     draft.ask(&point, asks)
 }
 
-// Lists the changes of a release, as they are found: the request is removed, and the later one may be added.
+// Lists the changes of a release, as they are found: the request is removed or kept, and the later one may be added.
 fn release_draft<A: Allocator + Copy, B: Allocator>(
     alloc: A,
     by: &Performer<'_, B>,
@@ -39,13 +58,8 @@ fn release_draft<A: Allocator + Copy, B: Allocator>(
 ) -> Result<Draft<A>, AllocError>
     ensures { IfOk result (λ d. d.changes.items ≡ found_released by.now times.now asks) }
 {
-    let point = Pointstamp {
-        location: by.vertex,
-        time: times.time.copy(),
-    };
     let mut draft = Draft::new(alloc, by.p);
-    draft.add(Slot::Request(point.copy()), -1)?;
-    draft.add(Slot::Unsent(point), -1)?;
+    add_gone(&mut draft, by.vertex, times)?;
     add_later(&mut draft, by.vertex, &times.to, asks)?;
     Ok(draft)
 }

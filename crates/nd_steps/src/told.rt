@@ -1,4 +1,4 @@
-//! The changes of a feed, a take, a notice or a release, by their indices.
+//! The changes of a feed, a take, a notice, a release or a send, by their indices.
 ghost use Rattle.std.specs.Prelude.{◌≡◌, ◌<◌, ◌++◌, IfSome, IsTrue, length, map, slice_index_or};
 ghost use Rattle.nd_steps.specs.Fed.{arrived};
 

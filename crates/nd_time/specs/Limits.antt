@@ -8,9 +8,16 @@ max_depth = 6
 abbrev pub max_depth_v1 : ℕ
 max_depth_v1 = 4
 
--- the most locations of a graph
+-- the most locations of a graph; `max_locations_v5` is that of a script of a version before 6
 abbrev pub max_locations : ℕ
-max_locations = 64
+max_locations = 256
+
+abbrev pub max_locations_v5 : ℕ
+max_locations_v5 = 64
+
+-- the most output ports of an opaque vertex
+abbrev pub max_ports : ℕ
+max_ports = 16
 
 -- the greatest length of a name in bytes; the next two are the least and the greatest byte in it, '!' and '~'
 abbrev pub max_name : ℕ

@@ -11,7 +11,7 @@ use Rattle.nd_protocol.specs.State.{ClusterState, queue}
 use Rattle.nd_protocol.specs.Steps.{after, stepped}
 use Rattle.nd_protocol.specs.Exchange.{sent, received, received_from}
 use Rattle.nd_protocol.specs.declared.step.Step.{Step}
-use Rattle.nd_protocol.specs.declared.step.Step.TheVariants.{Feed, Take, Notice, Release, Broadcast, Receive}
+use Rattle.nd_protocol.specs.declared.step.Step.TheVariants.{Feed, Take, Notice, Release, Send, Broadcast, Receive}
 use Rattle.nd_steps.specs.declared.record.Record.{Record}
 use Rattle.nd_cluster.specs.Saved.{state_in, FitsIn, IsSaved}
 use Rattle.nd_cluster.specs.Size.{size_of}
@@ -40,6 +40,7 @@ module _ {A : Type 0} where
   stepped_graph s (Take p edge t value) = refl
   stepped_graph s (Notice p vertex t) = refl
   stepped_graph s (Release p vertex times) = refl
+  stepped_graph s (Send p vertex batch) = refl
   stepped_graph s (Broadcast p part) = refl
   stepped_graph s (Receive from to) = received_graph s from to (queue s from to)
 

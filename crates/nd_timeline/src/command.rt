@@ -58,6 +58,8 @@ fn same_processors<A: Allocator>(
 impl<A: Allocator> Command<A> {
     /// Returns an equal command.
     pub fn copy(&self, alloc: A) -> Result<Command<A>, AllocError>
+    where
+        A: Copy,
         ensures { IfOk result (λ c. c ≡ self.now) }
     {
         match self {

@@ -6,7 +6,7 @@ use Rattle.nd_time.specs.Time.{Time}
 use Rattle.nd_graph.specs.Graph.{action_of, acted}
 use Rattle.nd_graph.specs.Operators.{facts}
 use Rattle.nd_graph.specs.declared.op.Op.{Op}
-use Rattle.nd_graph.specs.declared.op.Op.TheVariants.{Input, Ingress, Egress, Feedback, Add, Mul, Below, Split, Sum, Distinct, Hold, Sink}
+use Rattle.nd_graph.specs.declared.op.Op.TheVariants.{Input, Ingress, Egress, Feedback, Add, Mul, Below, Split, Sum, Distinct, Hold, Opaque, Sink}
 use Rattle.nd_time.specs.Listing.{time_cmp}
 use Rattle.nd_vertex.specs.Items.{Items, item_key, item_total}
 use Rattle.nd_vertex.specs.declared.key.ItemKey.{ItemKey}
@@ -47,6 +47,8 @@ plain_emissions (Below k) v = cond (int_lt v k) ((0, v) ∷ []) []
 plain_emissions (Split k) v = (cond (int_lt v k) 0 1, v) ∷ []
 plain_emissions Hold v = (0, v) ∷ []
 plain_emissions Sink v = []
+-- what an opaque vertex emits, a send says
+plain_emissions (Opaque ports starts) v = []
 -- sum and distinct depend on the items, see below
 plain_emissions Sum v = []
 plain_emissions Distinct v = []

@@ -70,7 +70,7 @@ fn plain_output(op: Op, value: i64) -> Result<Option<(u32, i64)>, VertexFault>
     ensures range { IfErr result (λ _. ¬ AreEmittable (plain_emissions op value)) }
 {
     match op {
-        Op::Input | Op::Sum | Op::Distinct | Op::Sink => Ok(None),
+        Op::Input | Op::Sum | Op::Distinct | Op::Opaque { .. } | Op::Sink => Ok(None),
         Op::Ingress | Op::Egress | Op::Feedback | Op::Hold => Ok(Some((0, value))),
         Op::Add(k) => match value.checked_add(k) {
             Some(sum) => Ok(Some((0, sum))),

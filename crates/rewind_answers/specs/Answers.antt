@@ -1,13 +1,13 @@
 -- Which replies each line of a script may get, and the phase after it.
-use Rattle.std.specs.Prelude.{◌≡◌, ◌≢◌, ◌+◌, ◌↔◌, IsTrue, Bool, ℕ, ◌<◌, ◌≤◌, ◌⊎◌, List, [], ◌∷◌, length, Option, Some, None, unsigned_abs, slice_get, Result, Ok, Err}
+use Rattle.std.specs.Prelude.{◌≡◌, ◌≢◌, ◌+◌, ◌↔◌, IsTrue, Bool, ℕ, ◌<◌, ◌≤◌, ◌⊎◌, List, [], ◌∷◌, length, if◌then◌else◌, Option, Some, None, unsigned_abs, slice_get, Result, Ok, Err}
 use Rattle.std.specs.Option.{option_to_list}
 use Rattle.std.specs.declared.alloc.Global.{Global}
 use Rattle.serde_json.specs.Data.{Data}
 use Rattle.rewind_lines.specs.Lines.{Reading, blank, too_long, no_json, json}
 use Rattle.nd_time.specs.Limits.{max_log, max_processors, max_processors_v1}
 use Rattle.nd_graph.specs.Graph.{Dataflow, location_count, names}
-use Rattle.nd_graph.specs.Draft.{Draft, draft_of, draft_of_v4}
-use Rattle.nd_graph.specs.Checked.{checked, checked_v1}
+use Rattle.nd_graph.specs.Draft.{Draft, draft_of, draft_of_v4, draft_of_v5}
+use Rattle.nd_graph.specs.Checked.{checked, checked_v1, checked_v5}
 use Rattle.nd_graph.specs.Fault.{code_of}
 use Rattle.nd_graph.specs.declared.fault.GraphFault.{GraphFault}
 use Rattle.nd_graph.specs.declared.fault.GraphFault.TheVariants.{Shape}
@@ -35,11 +35,11 @@ use Rattle.nd_session.specs.Faults.{code_of as code_of_session}
 use Rattle.nd_session.specs.declared.fault.SessionFault.{SessionFault}
 use Rattle.nd_session.specs.declared.fault.SessionFault.TheVariants.{LogFull, Memory}
 use Rattle.rewind_forms.specs.Asked.{asked_of}
-use Rattle.rewind_forms.specs.Versions.{number_of as number_of_version, version_of}
+use Rattle.rewind_forms.specs.Versions.{number_of as number_of_version, version_of, includes}
 use Rattle.rewind_forms.specs.Replies.{version, fault, location_fault, piece_fault, graph, reply_data, faulty, line_fault, count, before, state, known, frontier, passed, not_passed, no_processor, found}
 use Rattle.rewind_forms.specs.LineFaults.{code_of as code_of_line}
 use Rattle.rewind_forms.specs.declared.version.Version.{Version}
-use Rattle.rewind_forms.specs.declared.version.Version.TheVariants.{First, Second, Third, Fourth, Fifth}
+use Rattle.rewind_forms.specs.declared.version.Version.TheVariants.{First, Second, Fifth, Sixth}
 use Rattle.rewind_forms.specs.declared.fault.LineFault.{LineFault}
 use Rattle.rewind_forms.specs.declared.fault.LineFault.TheVariants.{LineTooLong, BadLine}
 use Rattle.rewind_forms.specs.declared.asked.Asked.{Asked}
@@ -65,21 +65,15 @@ pub data Phase : Type 0 where
 
 -- ---- the graph's line
 
--- the graph that a value describes in a script of this version; before the fifth version no vertex can be a hold
+-- the graph that a value describes in a script of this version; before the sixth version no vertex can be opaque, and before the
+-- fifth none can be a hold
 abbrev pub draft_in : Version → Data → Option Draft
-draft_in First d = draft_of_v4 d
-draft_in Second d = draft_of_v4 d
-draft_in Third d = draft_of_v4 d
-draft_in Fourth d = draft_of_v4 d
-draft_in Fifth d = draft_of d
+draft_in v d = if includes v Sixth then draft_of d else (if includes v Fifth then draft_of_v5 d else draft_of_v4 d)
 
--- the check of a draft in a script of this version; the first version has a smaller limit of depth
+-- the check of a draft in a script of this version; before the sixth version there may be fewer locations, and the first has a
+-- smaller limit of depth
 abbrev pub checked_in : Version → Draft → Result Dataflow GraphFault
-checked_in First draft = checked_v1 draft
-checked_in Second draft = checked draft
-checked_in Third draft = checked draft
-checked_in Fourth draft = checked draft
-checked_in Fifth draft = checked draft
+checked_in v draft = if includes v Sixth then checked draft else (if includes v Second then checked_v5 draft else checked_v1 draft)
 
 -- the graph of a draft, or the error
 abbrev pub graph_of_draft : Version → Option Draft → Result Dataflow GraphFault
@@ -92,11 +86,7 @@ graph_of v d = graph_of_draft v (draft_in v d)
 
 -- the most processors of a cluster in a script of this version
 abbrev pub most_processors : Version → ℕ
-most_processors First = max_processors_v1
-most_processors Second = max_processors
-most_processors Third = max_processors
-most_processors Fourth = max_processors
-most_processors Fifth = max_processors
+most_processors v = if includes v Second then max_processors else max_processors_v1
 
 -- the reply if no cluster starts on a graph: there are more processors than the version allows, or the start is refused
 pub data RefusedReply (v : Version) (processors : ℕ) (g : Dataflow) (reply : Data) : Type 0 where

@@ -25,16 +25,17 @@ use std::thread::Threads;
 /// The number of the only client.
 const ONLY_CLIENT: u64 = 0;
 
-// Returns the draft that the value describes in a script of this version. Before the fifth version no vertex can be a
-// hold.
+// Returns the draft that the value describes in a script of this version. Before the sixth version no vertex can be opaque, and
+// before the fifth none can be a hold.
 fn draft_of(alloc: Global, version: Version, value: &Value) -> Result<GraphDraft, GraphFault>
     ensures { IsUnlessMemory (ok_or (draft_in version (view value.now)) Shape) result }
 {
-    match version {
-        Version::First | Version::Second | Version::Third | Version::Fourth => {
-            GraphDraft::from_value_v4(alloc, value)
-        }
-        Version::Fifth => GraphDraft::from_value(alloc, value),
+    if version.includes(Version::Sixth) {
+        GraphDraft::from_value(alloc, value)
+    } else if version.includes(Version::Fifth) {
+        GraphDraft::from_value_v5(alloc, value)
+    } else {
+        GraphDraft::from_value_v4(alloc, value)
     }
 }
 
@@ -42,9 +43,12 @@ fn draft_of(alloc: Global, version: Version, value: &Value) -> Result<GraphDraft
 fn judged(alloc: Global, version: Version, draft: GraphDraft) -> Result<Graph, GraphFault>
     ensures { IsUnlessMemory (checked_in version draft) result }
 {
-    match version {
-        Version::First => draft.check_v1(alloc),
-        Version::Second | Version::Third | Version::Fourth | Version::Fifth => draft.check(alloc),
+    if version.includes(Version::Sixth) {
+        draft.check(alloc)
+    } else if version.includes(Version::Second) {
+        draft.check_v5(alloc)
+    } else {
+        draft.check_v1(alloc)
     }
 }
 
@@ -63,9 +67,10 @@ fn graph_of(alloc: Global, version: Version, value: &Value) -> Result<Graph, Gra
 fn most_processors(version: Version) -> u8
     ensures { result ≡ most_in version }
 {
-    match version {
-        Version::First => 8,
-        Version::Second | Version::Third | Version::Fourth | Version::Fifth => 16,
+    if version.includes(Version::Second) {
+        16
+    } else {
+        8
     }
 }
 

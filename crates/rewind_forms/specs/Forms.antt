@@ -1,7 +1,7 @@
 -- The shapes of a line's values, and of what is read from them.
 use Rattle.std.specs.Prelude.{◌≡◌, ◌≢◌, ℕ, ℤ, Bool, ◌&&◌, List, [], ◌∷◌, length, nat_le, nat_lt, if◌then◌else◌, Option, Some, None, codes, option_map, option_and_then, Result, Ok, Err}
 use Rattle.serde_json.specs.Data.{Data}
-use Rattle.serde_json.specs.Find.{get, as_bool}
+use Rattle.serde_json.specs.Find.{get}
 use Rattle.nd_json.specs.Forms.{has_keys, text, list, small, integer, text_at, list_at}
 use Rattle.nd_time.specs.Limits.{max_processors}
 use Rattle.nd_graph.specs.Draft.{every}
@@ -31,10 +31,6 @@ abbrev pub FailsWith : {B : Type 0} → Result B LineFault → LineFault → Typ
 FailsWith reading e = e ≢ Memory → reading ≡ Err e
 
 -- ---- values
-
--- the boolean at the key
-unfoldable pub boolean_at : List ℕ → Data → Option Bool
-boolean_at key d = option_and_then as_bool (get key d)
 
 -- the numbers of a time: at least one
 abbrev pub numbers_of : List Data → Option (List ℕ)

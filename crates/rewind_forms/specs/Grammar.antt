@@ -5,7 +5,7 @@ use Rattle.serde_json.specs.Data.{Data}
 use Rattle.nd_json.specs.Forms.{has_keys, text_at}
 use Rattle.rewind_forms.specs.Versions.{includes}
 use Rattle.rewind_forms.specs.declared.version.Version.{Version}
-use Rattle.rewind_forms.specs.declared.version.Version.TheVariants.{First, Second, Third, Fourth, Fifth}
+use Rattle.rewind_forms.specs.declared.version.Version.TheVariants.{First, Second, Third, Fourth, Fifth, Sixth}
 use Rattle.rewind_forms.specs.declared.form.Form.{Form}
 use Rattle.rewind_forms.specs.declared.form.Form.TheVariants.{Step, Command, Query}
 use Rattle.rewind_forms.specs.declared.form.StepForm.{StepForm}
@@ -17,6 +17,10 @@ use Rattle.rewind_forms.specs.declared.form.QueryForm.TheVariants as query
 
 -- ---- the words, each with its keys, in the order of their bytes, and with the form that they mean
 
+-- the keys that each send has
+abbrev pub send_keys : List (List ℕ)
+send_keys = codes "do" ∷ codes "p" ∷ codes "port" ∷ codes "time" ∷ codes "values" ∷ codes "vertex" ∷ []
+
 unfoldable pub steps : List (List ℕ × List (List ℕ) × StepForm)
 steps =
     (codes "feed", codes "do" ∷ codes "next" ∷ codes "p" ∷ codes "values" ∷ codes "vertex" ∷ [], step.Feed)
@@ -24,6 +28,11 @@ steps =
     ∷ (codes "notice", codes "do" ∷ codes "p" ∷ codes "time" ∷ codes "vertex" ∷ [], step.Notice)
     ∷ (codes "release", codes "do" ∷ codes "p" ∷ codes "time" ∷ codes "vertex" ∷ [], step.Release)
     ∷ (codes "release", codes "do" ∷ codes "p" ∷ codes "time" ∷ codes "to" ∷ codes "vertex" ∷ [], step.Move)
+    ∷ (codes "release", codes "do" ∷ codes "keep" ∷ codes "p" ∷ codes "time" ∷ codes "to" ∷ codes "vertex" ∷ [], step.Keep)
+    ∷ (codes "send", send_keys, step.Send)
+    ∷ (codes "send", codes "at" ∷ send_keys, step.Send)
+    ∷ (codes "send", codes "dest" ∷ send_keys, step.Send)
+    ∷ (codes "send", codes "at" ∷ codes "dest" ∷ send_keys, step.Send)
     ∷ (codes "broadcast", codes "do" ∷ codes "p" ∷ [], step.Broadcast)
     ∷ (codes "broadcast", codes "do" ∷ codes "p" ∷ codes "part" ∷ [], step.Part)
     ∷ (codes "receive", codes "do" ∷ codes "from" ∷ codes "to" ∷ [], step.Receive)
@@ -68,6 +77,8 @@ step_since step.Take = First
 step_since step.Notice = First
 step_since step.Release = Fifth
 step_since step.Move = Fifth
+step_since step.Keep = Sixth
+step_since step.Send = Sixth
 step_since step.Broadcast = First
 step_since step.Part = First
 step_since step.Receive = First

@@ -2,6 +2,7 @@ pub mod Forms
 pub mod Places
 pub mod Versions
 pub mod Grammar
+pub mod Sends
 pub mod Steps
 pub mod LineFaults
 pub mod Atoms

@@ -1,10 +1,10 @@
 -- What replies show has no float.
-use Rattle.std.proofs.Common.{◌≡◌, ◌+◌, ℕ, ℤ, pos, negsuc, List, [], ◌∷◌, ◌++◌, map, Bool, false, Option, Some, None, option_map, refl}
+use Rattle.std.proofs.Common.{◌≡◌, ◌+◌, ℕ, ℤ, pos, negsuc, List, [], ◌∷◌, ◌++◌, map, Bool, true, false, Option, Some, None, option_map, refl}
 use Rattle.std.specs.List.{flat_map, enumerate_from, zip}
 use Rattle.std.specs.FinMap as fin
 use Rattle.std.specs.declared.alloc.Global.{Global}
-use Rattle.serde_json.specs.Data.{Data}
-use Rattle.serde_json.specs.Written.{has_float}
+use Rattle.serde_json.specs.Data.{Data, Members}
+use Rattle.serde_json.specs.Written.{has_float, members_have_float}
 use Rattle.nd_time.specs.Time.{Time}
 use Rattle.nd_graph.specs.Graph.{Dataflow}
 use Rattle.nd_paths.specs.declared.point.Pointstamp.{Pointstamp}
@@ -15,13 +15,15 @@ use Rattle.nd_vertex.specs.declared.key.ItemKey.{ItemKey}
 use Rattle.nd_processor.specs.State.{ProcessorState}
 use Rattle.nd_protocol.specs.State.{ClusterState}
 use Rattle.nd_protocol.specs.declared.step.Step.{Step}
-use Rattle.nd_protocol.specs.declared.step.Step.TheVariants.{Feed, Take, Notice, Release, Broadcast, Receive}
+use Rattle.nd_protocol.specs.declared.step.Step.TheVariants.{Feed, Take, Notice, Release, Send, Broadcast, Receive}
+use Rattle.nd_protocol.specs.declared.times.Later.{Later}
+use Rattle.nd_protocol.specs.declared.batch.Batch.{Batch}
 use Rattle.nd_protocol.specs.declared.part.Part.{Part}
 use Rattle.nd_protocol.specs.declared.part.Part.TheVariants.{All, Points}
 use Rattle.nd_protocol.specs.declared.step.Next.{Next as Afterwards}
 use Rattle.nd_protocol.specs.declared.step.Next.TheVariants as token
 use Rattle.nd_state_json.specs.StateText.{row, natural, whole, time_data, point_data, entry_data, entries_data, item_data, record_data, sink_data, token_data, processor_data, queue_data, queues_data, state_data}
-use Rattle.rewind_forms.specs.Objects.{object_of, broadcast_object, next_data, release_object}
+use Rattle.rewind_forms.specs.Objects.{object_of, broadcast_object, next_data, move_object, release_object, at_before, dest_before, send_members, send_object}
 use Rattle.rewind_forms.specs.Errors.{error_data}
 use Rattle.rewind_forms.specs.declared.replies.ErrorReply.{ErrorReply}
 use Rattle.rewind_forms.specs.declared.replies.ErrorReply.TheVariants as error
@@ -78,9 +80,27 @@ no_float-next token.Close = refl
 no_float-next token.Stay = refl
 no_float-next (token.To n) = refl
 
-no_float-release : (g : Dataflow) (p vertex : ℕ) (time : Time) (to : Option Time) → has_float (release_object g p vertex time to) ≡ false
+no_float-move : (g : Dataflow) (p vertex : ℕ) (time to : Time) (keep : Bool) → has_float (move_object g p vertex time to keep) ≡ false
+no_float-move g p vertex time to true = rw (no_float-time time, no_float-time to) refl
+no_float-move g p vertex time to false = rw (no_float-time time, no_float-time to) refl
+
+no_float-release : (g : Dataflow) (p vertex : ℕ) (time : Time) (to : Option Later) → has_float (release_object g p vertex time to) ≡ false
 no_float-release g p vertex time None = rw (no_float-time time) refl
-no_float-release g p vertex time (Some to) = rw (no_float-time time, no_float-time to) refl
+no_float-release g p vertex time (Some to) = no_float-move g p vertex time to.time to.keep
+
+no_float-dest : (dest : Option ℕ) (ms : Members) → members_have_float ms ≡ false → members_have_float (dest_before dest ms) ≡ false
+no_float-dest None ms h = h
+no_float-dest (Some q) ms h = h
+
+no_float-at : (at : Option Time) (ms : Members) → members_have_float ms ≡ false → members_have_float (at_before at ms) ≡ false
+no_float-at None ms h = h
+no_float-at (Some t) ms h = rw (no_float-time t) h
+
+no_float-send : (g : Dataflow) (p vertex : ℕ) (b : Batch Global) → has_float (send_object g p vertex b) ≡ false
+no_float-send g p vertex b =
+    let ms : Members = send_members g p vertex b in
+    no_float-at b.at (dest_before b.dest ms)
+    (no_float-dest b.dest ms (rw (no_float-time b.time, no_float-row whole b.values no_float-whole) refl))
 
 -- the object of a step has no float
 pub no_float-step : (g : Dataflow) (x : Step Global) → has_float (object_of g x) ≡ false
@@ -89,6 +109,7 @@ no_float-step g (Feed p vertex values next) = rw (no_float-next next, no_float-r
 no_float-step g (Take p edge time value) = rw (no_float-time time, no_float-whole value) refl
 no_float-step g (Notice p vertex time) = rw (no_float-time time) refl
 no_float-step g (Release p vertex times) = no_float-release g p vertex times.time times.to
+no_float-step g (Send p vertex batch) = no_float-send g p vertex batch
 no_float-step g (Broadcast p part) = no_float-broadcast g p part
 no_float-step g (Receive from to) = refl
 

@@ -2,9 +2,9 @@
 use Rattle.std.specs.Prelude.{codes, if◌then◌else◌, Result, Ok}
 use Rattle.serde_json.specs.Data.{Data}
 use Rattle.serde_json.specs.Find.{get}
-use Rattle.nd_json.specs.Forms.{text_at, small_at, whole_at}
+use Rattle.nd_json.specs.Forms.{boolean_at, text_at, small_at, whole_at}
 use Rattle.nd_graph.specs.Graph.{Dataflow}
-use Rattle.rewind_forms.specs.Forms.{given, after, point_at, boolean_at}
+use Rattle.rewind_forms.specs.Forms.{given, after, point_at}
 use Rattle.rewind_forms.specs.Places.{location_named, time_of, point_there}
 use Rattle.rewind_forms.specs.Conditions.{condition_of}
 use Rattle.rewind_forms.specs.declared.version.Version.{Version}

@@ -1,9 +1,9 @@
 -- The step that a line asks for. The shapes of its values are tested first, then the names, then the times.
-use Rattle.std.specs.Prelude.{ℕ, if◌then◌else◌, Option, Some, None, option_map, option_and_then, codes, Result, Ok, Err}
+use Rattle.std.specs.Prelude.{ℕ, Bool, false, if◌then◌else◌, Option, Some, None, option_map, option_and_then, codes, Result, Ok, Err}
 use Rattle.std.specs.declared.alloc.Global.{Global}
 use Rattle.serde_json.specs.Data.{Data}
 use Rattle.serde_json.specs.Find.{get}
-use Rattle.nd_json.specs.Forms.{small, has_text, text_at, small_at, integer_at}
+use Rattle.nd_json.specs.Forms.{small, has_text, text_at, small_at, integer_at, boolean_at}
 use Rattle.nd_graph.specs.Graph.{Dataflow}
 use Rattle.nd_protocol.specs.declared.step.Step.{Step}
 use Rattle.nd_protocol.specs.declared.step.Step.TheVariants.{Feed, Take, Notice, Release, Broadcast, Receive}
@@ -13,10 +13,11 @@ use Rattle.nd_protocol.specs.declared.step.Next.TheVariants as token
 use Rattle.nd_graph.specs.Draft.{every}
 use Rattle.rewind_forms.specs.Forms.{given, after, numbers_at, named_at, points_at, values_at, alone}
 use Rattle.rewind_forms.specs.Places.{vertex_named, edge_named, time_of, placed, are_known, point_named}
+use Rattle.rewind_forms.specs.Sends.{send_of}
 use Rattle.rewind_forms.specs.Grammar.{form_of}
 use Rattle.rewind_forms.specs.Versions.{includes}
 use Rattle.rewind_forms.specs.declared.version.Version.{Version}
-use Rattle.rewind_forms.specs.declared.version.Version.TheVariants.{Fifth}
+use Rattle.rewind_forms.specs.declared.version.Version.TheVariants.{Fifth, Sixth}
 use Rattle.rewind_forms.specs.declared.form.Form.{Form}
 use Rattle.rewind_forms.specs.declared.form.Form.TheVariants as line
 use Rattle.rewind_forms.specs.declared.form.StepForm.{StepForm}
@@ -68,16 +69,20 @@ release_of g d =
     after (placed g (vertex_named g named.0) named.1) (λ point.
     Ok (Release p point.location (record { time = point.time; to = None })))))
 
--- the release that moves a capability to a later time; both times are of the vertex
-unfoldable pub move_of : Dataflow → Data → Result (Step Global) LineFault
-move_of g d =
+-- the release that moves a capability to a later time, or keeps it beside one there; both times are of the vertex
+unfoldable pub move_of : Dataflow → Bool → Data → Result (Step Global) LineFault
+move_of g keep d =
     given BadShape (small_at (codes "p") d) (λ p.
     given BadShape (named_at (codes "vertex") d) (λ named.
     given BadShape (numbers_at (codes "to") d) (λ later.
     given UnknownName (vertex_named g named.0) (λ vertex.
     given BadTime (time_of g vertex named.1) (λ time.
     given BadTime (time_of g vertex later) (λ to.
-    Ok (Release p vertex (record { time = time; to = Some to }))))))))
+    Ok (Release p vertex (record { time = time; to = Some (record { time = to; keep = keep }) }))))))))
+
+-- the same, if it says whether the capability is kept
+unfoldable pub keep_of : Dataflow → Data → Result (Step Global) LineFault
+keep_of g d = given BadShape (boolean_at (codes "keep") d) (λ keep. move_of g keep d)
 
 -- the broadcast of all that is unsent
 unfoldable pub broadcast_of : Data → Result (Step Global) LineFault
@@ -103,17 +108,19 @@ step_of v g form.Feed d = feed_of v g d
 step_of v g form.Take d = take_of g d
 step_of v g form.Notice d = notice_of g d
 step_of v g form.Release d = release_of g d
-step_of v g form.Move d = move_of g d
+step_of v g form.Move d = move_of g false d
+step_of v g form.Keep d = keep_of g d
+step_of v g form.Send d = send_of g d
 step_of v g form.Broadcast d = broadcast_of d
 step_of v g form.Part d = part_of g d
 step_of v g form.Receive d = receive_of d
 
 -- the step, if the form is one of a step; otherwise a bad shape
 abbrev pub read_as : Dataflow → Data → Form → Result (Step Global) LineFault
-read_as g d (line.Step form) = step_of Fifth g form d
+read_as g d (line.Step form) = step_of Sixth g form d
 read_as g d (line.Command form) = Err BadShape
 read_as g d (line.Query form) = Err BadShape
 
 -- the step that a value describes in a script of the last version, or the error
 unfoldable pub read_of : Dataflow → Data → Result (Step Global) LineFault
-read_of g d = given BadShape (form_of Fifth d) (read_as g d)
+read_of g d = given BadShape (form_of Sixth d) (read_as g d)

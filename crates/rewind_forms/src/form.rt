@@ -25,6 +25,9 @@ pub enum StepForm {
     Release,
     /// A release that moves a capability to a later time.
     Move,
+    /// The same with the key `keep`, which says whether the capability is kept along with the later one.
+    Keep,
+    Send,
     /// A broadcast of all that is unsent.
     Broadcast,
     /// A broadcast of a part.
@@ -82,6 +85,7 @@ impl StepForm {
             | StepForm::Part
             | StepForm::Receive => Version::First,
             StepForm::Release | StepForm::Move => Version::Fifth,
+            StepForm::Keep | StepForm::Send => Version::Sixth,
         }
     }
 }
@@ -179,6 +183,27 @@ fn step_form(word: &str, value: &Value) -> Option<StepForm>
         "notice" if has_keys(value, &["do", "p", "time", "vertex"]) => Some(StepForm::Notice),
         "release" if has_keys(value, &["do", "p", "time", "vertex"]) => Some(StepForm::Release),
         "release" if has_keys(value, &["do", "p", "time", "to", "vertex"]) => Some(StepForm::Move),
+        "release" if has_keys(value, &["do", "keep", "p", "time", "to", "vertex"]) => {
+            Some(StepForm::Keep)
+        }
+        "send" if has_keys(value, &["do", "p", "port", "time", "values", "vertex"]) => {
+            Some(StepForm::Send)
+        }
+        "send"
+            if has_keys(
+                value,
+                &["at", "do", "p", "port", "time", "values", "vertex"],
+            ) => { Some(StepForm::Send) }
+        "send"
+            if has_keys(
+                value,
+                &["dest", "do", "p", "port", "time", "values", "vertex"],
+            ) => { Some(StepForm::Send) }
+        "send"
+            if has_keys(
+                value,
+                &["at", "dest", "do", "p", "port", "time", "values", "vertex"],
+            ) => { Some(StepForm::Send) }
         "broadcast" if has_keys(value, &["do", "p"]) => Some(StepForm::Broadcast),
         "broadcast" if has_keys(value, &["do", "p", "part"]) => Some(StepForm::Part),
         "receive" if has_keys(value, &["do", "from", "to"]) => Some(StepForm::Receive),

@@ -20,6 +20,7 @@ mod queries;
 mod reasons;
 mod replies;
 mod row;
+mod sends;
 mod shapes;
 mod shown;
 mod steps;

@@ -3,12 +3,12 @@ ghost use Rattle.std.specs.Prelude.{◌≡◌, OnOk, map};
 ghost use Rattle.serde_json.specs.Events.{SendsValue};
 ghost use Rattle.nd_state_json.specs.StateText.{time_data, point_data, row, whole};
 ghost use Rattle.rewind_forms.specs.NoFloats.{no_float-next, no_float-point, no_float-row, no_float-step, no_float-time, no_float-whole};
-ghost use Rattle.rewind_forms.specs.Objects.{next_data, broadcast_object, object_of, release_object};
+ghost use Rattle.rewind_forms.specs.Objects.{next_data, broadcast_object, object_of, release_object, send_object};
 
 use crate::object;
 use crate::shown::{Names, Place, Shown, send_list};
 use nd_paths::Pointstamp;
-use nd_protocol::{Next, Part, Points, Step, Times, Values};
+use nd_protocol::{Batch, Next, Part, Points, Step, Times, Values};
 use nd_state_json::send_time;
 use nd_time::Timestamp;
 use serde::Serializer;
@@ -35,7 +35,7 @@ impl Shown for Pointstamp {
     }
 }
 
-/// Values that are fed, in their order.
+/// Values that are fed or sent, in their order.
 impl Shown for Values {
     ghost shown = { λ g values. row (map whole values) };
 
@@ -129,6 +129,7 @@ impl Shown for Step {
                 *vertex,
                 times.get(),
             ),
+            Step::Send { p, vertex, batch } => send_batch(out, names, *p, *vertex, batch.get()),
             Step::Broadcast { p, part } => send_broadcast(out, names, *p, part),
             Step::Receive { from, to } => {
                 object! {"do": "receive", "from": *from, "to": *to}.send(out, names)
@@ -137,7 +138,7 @@ impl Shown for Step {
     }
 }
 
-// Sends the object of a release, which drops a capability or moves it to a later time.
+// Sends the object of a release, which drops a capability, moves it to a later time, or keeps it beside one at a later time.
 fn send_release<S: Serializer, N: Names>(
     out: &mut S,
     names: &N,
@@ -150,17 +151,64 @@ fn send_release<S: Serializer, N: Names>(
         (S.written out.old) (S.written out.new)) }
 {
     let (time, vertex) = (&times.time, Place(vertex));
-    match &times.to {
-        None => object! {"do": "release", "p": p, "time": time, "vertex": vertex}.send(out, names),
-        Some(to) => {
-            object! {
-                "do": "release",
-                "p": p,
-                "time": time,
-                "to": to,
-                "vertex": vertex
-            }
-            .send(out, names)
+    let Some(later) = &times.to else {
+        return object! {"do": "release", "p": p, "time": time, "vertex": vertex}.send(out, names);
+    };
+    let to = &later.time;
+    if later.keep {
+        object! {
+            "do": "release",
+            "keep": true,
+            "p": p,
+            "time": time,
+            "to": to,
+            "vertex": vertex
+        }
+        .send(out, names)
+    } else {
+        object! {
+            "do": "release",
+            "p": p,
+            "time": time,
+            "to": to,
+            "vertex": vertex
+        }
+        .send(out, names)
+    }
+}
+
+// Makes the object of a send: the given members, and then those that each send has.
+macro_rules! sending {
+    ($p:expr, $vertex:expr, $batch:expr $(, $key:tt : $member:expr)*) => {
+        object! {
+            $($key : $member,)*
+            "do": "send",
+            "p": $p,
+            "port": $batch.port,
+            "time": &$batch.time,
+            "values": &$batch.values,
+            "vertex": Place($vertex)
+        }
+    };
+}
+
+// Sends the object of a send, with the keys `at` and `dest` if they were given.
+fn send_batch<S: Serializer, N: Names>(
+    out: &mut S,
+    names: &N,
+    p: u32,
+    vertex: usize,
+    batch: &Batch,
+) -> Result<(), S::Error>
+    ensures { OnOk result (SendsValue (send_object (N.graph names.now) p vertex batch.now)
+        (S.written out.old) (S.written out.new)) }
+{
+    match (&batch.at, batch.dest) {
+        (None, None) => sending!(p, vertex, batch).send(out, names),
+        (Some(at), None) => sending!(p, vertex, batch, "at": at).send(out, names),
+        (None, Some(dest)) => sending!(p, vertex, batch, "dest": dest).send(out, names),
+        (Some(at), Some(dest)) => {
+            sending!(p, vertex, batch, "at": at, "dest": dest).send(out, names)
         }
     }
 }

@@ -4,7 +4,6 @@ ghost use Rattle.serde_json.specs.View.{view};
 ghost use Rattle.rewind_forms.specs.Forms.{FailsWith};
 ghost use Rattle.rewind_forms.specs.Queries.{count_of as count_in, before_of as before_in, view_of as view_in, frontier_of as frontier_in, passed_of as passed_in, search_of as search_in, query_of as query_in};
 ghost use Rattle.rewind_forms.specs.Queries.{why_of as why_in, changes_of as changes_in, kept_step_of as kept_step_in};
-ghost use Rattle.rewind_forms.specs.Forms.{boolean_at as boolean_in};
 ghost use Rattle.rewind_forms.specs.Queries.{effect_of as effect_in, turns_of as turns_in, frontier_at_of as frontier_at_in, why_before_of as why_before_in};
 
 use crate::conditions::condition_of;
@@ -13,7 +12,7 @@ use crate::points::{point_at, point_there};
 use crate::{LineFault, QueryForm, Version};
 use nd_breaks::Condition;
 use nd_graph::Graph;
-use nd_json::{small_at, text_at, whole_at};
+use nd_json::{boolean_at, small_at, text_at, whole_at};
 use nd_paths::Pointstamp;
 use serde_json::Value;
 use std::alloc::Global;
@@ -225,14 +224,6 @@ fn frontier_at_of(graph: &Graph, value: &Value) -> Result<Query, LineFault>
     let name = text_at(value, "at").ok_or(LineFault::BadShape)?;
     let location = location_named(graph, name).ok_or(LineFault::UnknownName)?;
     Ok(Query::FrontierAt(q, location))
-}
-
-// Returns the boolean at the key, if there is one.
-#[tactic(auto, unfolding(crate::specs::Forms::boolean_at))]
-fn boolean_at(value: &Value, key: &str) -> Option<bool>
-    ensures { result ≡ boolean_in key.now (view value.now) }
-{
-    value.get(key)?.as_bool()
 }
 
 #[tactic(auto, unfolding(crate::specs::Queries::why_before_of))]

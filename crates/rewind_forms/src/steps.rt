@@ -2,17 +2,18 @@
 ghost use Rattle.std.specs.Prelude.{◌≡◌, Ok, IfOk, IfErr};
 ghost use Rattle.serde_json.specs.View.{view};
 ghost use Rattle.rewind_forms.specs.Forms.{FailsWith};
-ghost use Rattle.rewind_forms.specs.Steps.{feed_of as feed_in, take_of as take_in, notice_of as notice_in, release_of as release_in, move_of as move_in, broadcast_of as broadcast_in, part_of as part_in, receive_of as receive_in, epoch_at as epoch_in, next_at as next_in, step_of as step_in, read_of as read_in};
+ghost use Rattle.rewind_forms.specs.Steps.{feed_of as feed_in, take_of as take_in, notice_of as notice_in, release_of as release_in, move_of as move_in, keep_of as keep_in, broadcast_of as broadcast_in, part_of as part_in, receive_of as receive_in, epoch_at as epoch_in, next_at as next_in, step_of as step_in, read_of as read_in};
 ghost use Rattle.rewind_forms.specs.Fitting.{NamesFit};
 
 use crate::numbers::{numbers_at, values_at};
 use crate::places::{edge_named, placed, time_of, vertex_named};
 use crate::points::{are_known, named_at, points_at, points_named};
+use crate::sends::send_of;
 use crate::shapes::alone;
 use crate::{Form, LineFault, StepForm, Version};
 use nd_graph::Graph;
-use nd_json::{has_text, integer_at, small, small_at, text_at};
-use nd_protocol::{BoxedTimes, Next, Part, Step, Times};
+use nd_json::{boolean_at, has_text, integer_at, small, small_at, text_at};
+use nd_protocol::{BoxedTimes, Later, Next, Part, Step, Times};
 use serde_json::Value;
 use std::alloc::Global;
 
@@ -121,11 +122,11 @@ fn release_of(alloc: Global, graph: &Graph, value: &Value) -> Result<Step, LineF
     })
 }
 
-// Returns the release that moves a capability to a later time.
+// Returns the release that moves a capability to a later time, or keeps it beside one at a later time.
 #[tactic(auto, unfolding(crate::specs::Steps::move_of))]
-fn move_of(alloc: Global, graph: &Graph, value: &Value) -> Result<Step, LineFault>
-    ensures ok { IfOk result (λ c. move_in graph.now (view value.now) ≡ Ok c) }
-    ensures err { IfErr result (FailsWith (move_in graph.now (view value.now))) }
+fn move_of(alloc: Global, graph: &Graph, keep: bool, value: &Value) -> Result<Step, LineFault>
+    ensures ok { IfOk result (λ c. move_in graph.now keep (view value.now) ≡ Ok c) }
+    ensures err { IfErr result (FailsWith (move_in graph.now keep (view value.now))) }
 {
     let p = small_at(value, "p").ok_or(LineFault::BadShape)?;
     let named = named_at(alloc, value, "vertex")?.ok_or(LineFault::BadShape)?;
@@ -133,8 +134,19 @@ fn move_of(alloc: Global, graph: &Graph, value: &Value) -> Result<Step, LineFaul
     let vertex = vertex_named(graph, named.name).ok_or(LineFault::UnknownName)?;
     let time = time_of(graph, vertex, named.numbers.as_slice()).ok_or(LineFault::BadTime)?;
     let to = time_of(graph, vertex, later.as_slice()).ok_or(LineFault::BadTime)?;
-    let times = BoxedTimes::new(alloc, Times { time, to: Some(to) })?;
+    let later = Some(Later { time: to, keep });
+    let times = BoxedTimes::new(alloc, Times { time, to: later })?;
     Ok(Step::Release { p, vertex, times })
+}
+
+// Returns the release that says whether it keeps the capability.
+#[tactic(auto, unfolding(crate::specs::Steps::keep_of))]
+fn keep_of(alloc: Global, graph: &Graph, value: &Value) -> Result<Step, LineFault>
+    ensures ok { IfOk result (λ c. keep_in graph.now (view value.now) ≡ Ok c) }
+    ensures err { IfErr result (FailsWith (keep_in graph.now (view value.now))) }
+{
+    let keep = boolean_at(value, "keep").ok_or(LineFault::BadShape)?;
+    move_of(alloc, graph, keep, value)
 }
 
 // Returns a broadcast of all that is unsent.
@@ -189,7 +201,9 @@ pub fn step_of(
         StepForm::Take => take_of(alloc, graph, value),
         StepForm::Notice => notice_of(alloc, graph, value),
         StepForm::Release => release_of(alloc, graph, value),
-        StepForm::Move => move_of(alloc, graph, value),
+        StepForm::Move => move_of(alloc, graph, false, value),
+        StepForm::Keep => keep_of(alloc, graph, value),
+        StepForm::Send => send_of(alloc, graph, value),
         StepForm::Broadcast => broadcast_of(value),
         StepForm::Part => part_of(alloc, graph, value),
         StepForm::Receive => receive_of(value),
@@ -206,8 +220,8 @@ pub fn read_step(alloc: Global, graph: &Graph, value: &Value) -> Result<Step, Li
     ensures fits { IfOk result (NamesFit graph.now) }
     ensures err { IfErr result (FailsWith (read_in graph.now (view value.now))) }
 {
-    match Form::of(Version::Fifth, value) {
-        Some(Form::Step(form)) => step_of(alloc, Version::Fifth, graph, form, value),
+    match Form::of(Version::Sixth, value) {
+        Some(Form::Step(form)) => step_of(alloc, Version::Sixth, graph, form, value),
         _ => Err(LineFault::BadShape),
     }
 }

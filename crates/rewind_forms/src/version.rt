@@ -20,6 +20,8 @@ pub enum Version {
     Fourth,
     /// Adds vertices that hold capabilities, releases, feeds that name the next epoch, and runs of some processors.
     Fifth,
+    /// Adds graphs of 256 locations, opaque vertices, sends, and releases that keep the capability.
+    Sixth,
 }
 
 impl Version {
@@ -33,6 +35,7 @@ impl Version {
             Version::Third => 3,
             Version::Fourth => 4,
             Version::Fifth => 5,
+            Version::Sixth => 6,
         }
     }
 
@@ -57,6 +60,8 @@ fn numbered(number: u64) -> Option<Version>
         Some(Version::Fourth)
     } else if number == 5 {
         Some(Version::Fifth)
+    } else if number == 6 {
+        Some(Version::Sixth)
     } else {
         None
     }

@@ -17,6 +17,10 @@ pub const LINE: &str =
 pub const HELD: &str =
     r#"{"vertices":[{"name":"a","op":"input","depth":0},{"name":"h","op":"hold","depth":0},{"name":"z","op":"sink","depth":0}],"edges":[{"name":"ah","from":"a","port":0,"to":"h","route":"local"},{"name":"hz","from":"h","port":0,"to":"z","route":"local"}]}"#;
 
+/// The graph of an input, an opaque vertex, and a sink at each of its two ports.
+pub const TRACED: &str =
+    r#"{"vertices":[{"name":"a","op":"input","depth":0},{"name":"x","op":"opaque","depth":0,"ports":2},{"name":"y","op":"sink","depth":0},{"name":"z","op":"sink","depth":0}],"edges":[{"name":"ax","from":"a","port":0,"to":"x","route":"local"},{"name":"xy","from":"x","port":0,"to":"y","route":"local"},{"name":"xz","from":"x","port":1,"to":"z","route":"local"}]}"#;
+
 pub const LINE_REPLY: &str = "{\"locations\":3,\"ok\":true,\"processors\":1}\n";
 
 /// A script's lines, each with its reply. The last has no newline.

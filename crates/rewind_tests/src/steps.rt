@@ -1,6 +1,6 @@
 //! Steps that a script exports, read back.
 
-use crate::runs::{HELD, ONE, run};
+use crate::runs::{HELD, ONE, TRACED, run};
 use nd_graph::{Graph, GraphDraft};
 use rewind_forms::{read_step, text_of};
 use serde_json::Value;
@@ -34,12 +34,26 @@ const RELEASES: &[&str] = &[
     r#"{"do":"release","p":0,"time":[3],"vertex":"h"}"#,
 ];
 
+/// Steps on *traced*, each as it is exported: sends with and without a time and a processor of their own, and releases that
+/// keep the capability and move it.
+const SENDS: &[&str] = &[
+    r#"{"do":"feed","next":"close","p":0,"values":[7],"vertex":"a"}"#,
+    r#"{"do":"take","edge":"ax","p":0,"time":[0],"value":7}"#,
+    r#"{"do":"send","p":0,"port":0,"time":[0],"values":[1,2],"vertex":"x"}"#,
+    r#"{"at":[2],"do":"send","p":0,"port":1,"time":[0],"values":[5],"vertex":"x"}"#,
+    r#"{"dest":0,"do":"send","p":0,"port":1,"time":[0],"values":[-5],"vertex":"x"}"#,
+    r#"{"at":[0],"dest":0,"do":"send","p":0,"port":1,"time":[0],"values":[],"vertex":"x"}"#,
+    r#"{"do":"release","keep":true,"p":0,"time":[0],"to":[3],"vertex":"x"}"#,
+    r#"{"do":"release","p":0,"time":[0],"to":[3],"vertex":"x"}"#,
+];
+
 /// A version line, a graph and steps.
 type Script = (&'static str, &'static str, &'static [&'static str]);
 
-static SCRIPTS: [Script; 2] = [
+static SCRIPTS: [Script; 3] = [
     ("{\"version\":2}\n", SUM, STEPS),
     ("{\"version\":5}\n", HELD, RELEASES),
+    ("{\"version\":6}\n", TRACED, SENDS),
 ];
 
 /// Returns a script that executes the steps and exports them.
@@ -80,7 +94,7 @@ fn read_and_shown(alloc: Global, graph: &str, text: &str) -> Option<Vec<u8>> {
     text_of(alloc, &graph, &step).ok()
 }
 
-/// Checks what the worked example *export-replays* says about `read_step`, and the same for the steps of version 5: each
+/// Checks what the worked example *export-replays* says about `read_step`, and the same for the steps of the versions 5 and 6: each
 /// exported step is read, and its object is the exported one.
 #[test]
 fn export_replays(rt: HostRuntime) -> Result<(), Fail> {

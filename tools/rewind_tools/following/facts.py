@@ -3,9 +3,8 @@ the point that was left out, and why a time is not finished.
 
     refused(words, line, value, reply)      why a line was refused, in sentences; none if tools/tell has them
     why(words, line, asked)                 why a time is not finished, in sentences"""
-from rewind_tools.following.steps import ports_words
 from rewind_tools.telling.answers import inadmissible, no_capability, not_yet
-from rewind_tools.telling.commands import at, counted, processors, record, some_of, time_in
+from rewind_tools.telling.commands import at, counted, ports_words, processors, record, some_of, time_in
 from rewind_tools.telling.reasons import why_words
 
 
@@ -64,8 +63,6 @@ def nothing_to_send(words, line, value, reply):
 def not_admissible(words, line, value, reply):
     """Which negative entries of the part supported the point that is left out."""
     said = inadmissible(words.teller, value, reply, words.state)
-    if words.program.version > 5:
-        said += ", nor a capability that it holds at an opaque vertex"
     part = value.get("part")
     unsent = words.state["processors"][value["p"]]["unsent"]
     sent = [it for it in unsent if it[2] < 0 and (part is None or it[:2] in part)]

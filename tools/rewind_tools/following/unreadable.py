@@ -1,11 +1,11 @@
 """Why a line is none of its worker's trace, in words."""
 import json
 
-from rewind_tools.following.words import teller_of
 from rewind_tools.following.traces import own_of
 from rewind_tools.runs import json_of
 from rewind_tools.script import LAST
 from rewind_tools.telling import faults, names
+from rewind_tools.telling.answers import Teller
 from rewind_tools.telling.commands import unread
 from rewind_tools.telling.forms import FORMS
 from rewind_tools.telling.printing import BOLD, RED
@@ -19,7 +19,7 @@ def said(unreadable, program, workers):
     if unreadable.why:
         sentences = [unreadable.why]
     else:
-        teller = teller_of(program, workers)
+        teller = Teller(names.Graph(program.graph, program.version), workers, False, program.version)
         sentences = faults.faulty(unreadable.reply, wrong(unreadable, text, teller))
         sentences[0] = sentences[0].removeprefix("faulty, ")
     return [(head, 0, BOLD), *((it, 4, "" if at else RED) for at, it in enumerate(sentences))]

@@ -7,29 +7,22 @@ comes from the program, which is at the end of what could be executed."""
 from rewind_tools.following import facts
 from rewind_tools.following.comparing import entries_apart
 from rewind_tools.following.endings import DIFFERS, FOLLOWED, TOO_LONG
-from rewind_tools.following.steps import step_words
 from rewind_tools.following.traces import own_of
 from rewind_tools.telling import names
 from rewind_tools.telling.answers import Teller
-from rewind_tools.telling.commands import at, counted, some_of, time_in
+from rewind_tools.telling.commands import WORDS, at, counted, some_of, time_in
 from rewind_tools.telling.printing import BOLD, RED
 from rewind_tools.telling.values import shown
 
 WAITS = "waits"
 
 
-def teller_of(program, workers):
-    """A teller, to whom an opaque vertex is one that holds capabilities."""
-    graph = names.Graph(program.graph, program.version)
-    graph.holds = graph.holds | names.holds_of(program.graph, "opaque")
-    return Teller(graph, workers, False, program.version)
-
-
 class Words:
     def __init__(self, follower, traces, epochs, program):
         self.follower, self.traces, self.epochs, self.program = follower, traces, epochs, program
         self.merging = follower.merging
-        self.teller = teller_of(program, len(traces))
+        graph = names.Graph(program.graph, program.version)
+        self.teller = Teller(graph, len(traces), False, program.version)
         self.state = epochs.told(program.asked({"do": "state"}))["state"]
 
     def of(self, ending):
@@ -53,7 +46,7 @@ class Words:
         line, trace = wrong.line, self.traces[wrong.line.worker]
         value = trace.value(line.number)
         own = own_of(value)
-        said = [(f"{how} at {trace.path}, line {line.number}: {step_words(value)}", 0, BOLD)]
+        said = [(f"{how} at {trace.path}, line {line.number}: {WORDS[value['do']](value)}", 0, BOLD)]
         said += [(f"note: {own['note']}", 4, "")] if "note" in own else []
         if how == WAITS:
             return said + [(facts.waited_for(self, line, value), 4, "")]

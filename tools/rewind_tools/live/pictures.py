@@ -21,7 +21,7 @@ from rewind_tools.telling.reasons import reason_words
 MOST_CHANGES, MOST_REASONS = 60, 40
 LAST_COUNTER = (1 << 32) - 1
 
-STAYS = "it stays until it is released: a hold is never notified, and no run releases it"
+STAYS = "it stays until it is released: {} is never notified, and no run releases it"
 
 
 def held_words(step):
@@ -128,8 +128,9 @@ class Pictures:
 
     def candidate(self, it):
         """A step that a run tries; if it is refused, why. Its line is a text, since a browser would round
-        the value of a take. The notice of a hold vertex, which is never run, stands for the capability,
-        which the page offers to release."""
+        the value of a take. The notice of a vertex that holds capabilities, which is never run, stands
+        for the capability, from which the page offers to send, if the vertex is opaque, and which it offers
+        to release."""
         step = it["step"]
         is_held = step["do"] == "notice" and step["vertex"] in self.holds
         shown = {
@@ -140,7 +141,7 @@ class Pictures:
         }
         if is_held:
             shown["release"] = {**step, "do": "release"}
-            shown["refused"] = STAYS
+            shown["refused"] = STAYS.format(step["vertex"])
             shown["ask"] = {"do": "why", "q": step["p"], "at": step["vertex"], "time": step["time"]}
         elif "refused" in it:
             shown["refused"] = plain(self.teller.refused(step, it["refused"], None)[0])

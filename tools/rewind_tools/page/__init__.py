@@ -10,7 +10,10 @@ from rewind_tools.showing.graphs import graph_svg, laid_out
 
 FOLDER = os.path.dirname(os.path.abspath(__file__))
 SHARED = ("base.js", "steps.js", "drawing.js", "panels.js")
-SCRIPTS = {"live": (*SHARED, "live.js", "keys.js"), "recorded": (*SHARED, "recorded.js", "keys.js")}
+SCRIPTS = {
+    "live": (*SHARED, "held.js", "live.js", "keys.js"),
+    "recorded": (*SHARED, "recorded.js", "keys.js"),
+}  # fmt: skip
 FILES = {
     "page.css": "text/css; charset=utf-8",
     **{it: "text/javascript; charset=utf-8" for it in SCRIPTS["live"]},
@@ -43,8 +46,11 @@ def part(name):
 
 
 def places_of(graph):
-    """The vertices and edges by name, each with what it is."""
-    return [{"name": it["name"], "op": it.get("op", "edge")} for it in graph["vertices"] + graph["edges"]]
+    """The vertices and edges by name, each with what it is; an opaque vertex has the number of its ports."""
+    return [
+        {"name": it["name"], "op": it.get("op", "edge"), **{key: it[key] for key in ("ports",) if key in it}}
+        for it in graph["vertices"] + graph["edges"]
+    ]
 
 
 def filled(kind, values):

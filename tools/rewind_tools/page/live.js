@@ -104,7 +104,7 @@ function textOf(line) {
 }
 
 function isStep(text) {
-  return ["feed", "take", "notice", "release", "broadcast", "receive", "run"].includes(JSON.parse(text).do);
+  return ["feed", "take", "notice", "send", "release", "broadcast", "receive", "run"].includes(JSON.parse(text).do);
 }
 
 // Executes a command. One that discards kept steps is asked about first. Returns whether it was executed.
@@ -208,24 +208,6 @@ function save() {
     document.body.dataset.saved = told.script;
     say(`saved as ${link.download}; ./rewind ${told.words.join(" ")} < ${link.download} executes it again`);
   });
-}
-
-// Releases a held capability, or moves it to a later time, which is the next epoch unless another is typed.
-function releaseForm(line) {
-  const form = made("form", undefined, "form"), to = made("input");
-  to.value = [line.time[0] + 1, ...line.time.slice(1)].join(",");
-  to.size = 6;
-  const there = `${line.vertex} ${timeText(line.time)} of processor ${line.p}`;
-  to.setAttribute("aria-label", `the later time for the capability at ${there}`);
-  const move = () => {
-    const typed = timeOf(to.value);
-    return typed.fault ? say(`move: ${typed.fault}`, true) : execute({ ...line, to: typed.time });
-  };
-  form.addEventListener("submit", (event) => { event.preventDefault(); move(); });
-  const release = button("release", () => execute(line)), press = button("move to", move);
-  release.setAttribute("aria-label", `release the capability at ${there}`);
-  form.append(release, press, to);
-  return form;
 }
 
 // ---- the feed of an input
@@ -376,7 +358,7 @@ function goTo() {
 const source = {
   isLive: true,
   execute,
-  releaseForm,
+  heldForms,
   goToStep: jump,
   showFrom(key, first) { sight[key] = first; return inTurn(refresh); },
   async why(question_) {

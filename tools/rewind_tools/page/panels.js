@@ -32,7 +32,7 @@ function candidate(it) {
   const press = button(it.words, () => (picture.candidates ? act() : undefined), classes);
   if (it.refused) press.append(made("small", it.refused));
   row.append(press);
-  if (it.release) row.append(source.releaseForm(it.release));
+  if (it.release) row.append(...source.heldForms(it.release));
   return row;
 }
 

@@ -31,6 +31,7 @@ function markOf(kind, at, lane) {
     receive: [[-6, -5.5], [0, 7], [6, -5.5]],
     notice: [[0, -7.5], [7.5, 0], [0, 7.5], [-7.5, 0]],
     feed: [[-5.8, -5.8], [5.8, -5.8], [5.8, 5.8], [-5.8, 5.8]],
+    send: [[-5.5, -6.5], [7, 0], [-5.5, 6.5]],
   }[kind];
   if (!points) return drawn("circle", { cx: at, cy: lane, r: 6.5 });
   return drawn("polygon", { points: points.map(([dx, dy]) => `${at + dx},${lane + dy}`).join(" ") });
@@ -63,7 +64,7 @@ function turnParts(high, wide) {
 
 // Which mark and which colour each kind of step in sight has.
 function stepLegend(items) {
-  const kinds = ["feed", "take", "notice", "release", "broadcast", "receive"].filter((kind) => items.some((it) => it.kind === kind));
+  const kinds = ["feed", "take", "notice", "send", "release", "broadcast", "receive"].filter((kind) => items.some((it) => it.kind === kind));
   return kinds.map((kind) => {
     const it = made("span", undefined, "key"), svg = drawn("svg", { width: 18, height: 18, "aria-hidden": true });
     const mark = markOf(kind, 9, 9);

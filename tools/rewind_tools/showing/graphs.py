@@ -6,6 +6,7 @@ from html import escape
 
 from rewind_tools.layout import Drawn, Edge, layout, tidy
 from rewind_tools.showing.loops import loop_svg, loops_of
+from rewind_tools.telling.commands import op_words
 from rewind_tools.wrapping import wrapped
 
 LETTER = 7.3
@@ -22,7 +23,7 @@ def width_of(text, letter=LETTER):
 
 
 def kind_of(vertex):
-    return f"{vertex['op']} {vertex['k']}" if "k" in vertex else vertex["op"]
+    return op_words(vertex).removesuffix(" with a capability")
 
 
 def port_of(edge):

@@ -34,8 +34,14 @@ def words_of(value):
     if kind == "broadcast":
         return ["broadcasts"]
     there = at(value["vertex"], value["time"])
+    if kind == "send":
+        return [f"sends {', '.join(map(str, value['values']))}", f"from {there} on port {value['port']}"]
+    if kind == "release" and "to" in value:
+        if value.get("keep"):
+            return [f"keeps {there}", f"and holds {time_in(value['to'])}"]
+        return [f"moves {there}", f"to {time_in(value['to'])}"]
     if kind == "release":
-        return [f"moves {there}", f"to {time_in(value['to'])}"] if "to" in value else ["releases", there]
+        return ["releases", there]
     return ["runs the notice", there]
 
 

@@ -1,8 +1,8 @@
 """The page of a run that is recorded: a position for each line that is answered, and before a run's own one
 for each of its steps but the last.
 
-What a position shows is asked of a copy of the script, in the last version, by one client: the picture that
-a live page would show, and why processors do not consider points finished."""
+What a position shows is asked of a copy of the script, in the last version that the program reads, by one
+client: the picture that a live page would show, and why processors do not consider points finished."""
 import json
 from html import escape
 
@@ -24,7 +24,7 @@ MOST_STEPS, LONGEST, ROWS, MOST_EFFECTS = 10_000, 2000, 400, 1000
 # that the script's lines name, and those at which a vertex waits for its notification.
 MOST, MOST_OF_FEWER = 20_000, 20_000
 # The words of lines that ask about a point, or wait at one.
-NAMING = ("passed", "why", "notice", "release")
+NAMING = ("passed", "why", "notice", "send", "release")
 FOLLOWED = ("error", "code", "at", "kept", "ok", "ran")
 
 
@@ -41,7 +41,7 @@ def named_points(told):
     """The points that the script's own lines ask about, in their order, each once."""
     values = [it.line.value for it in told.entries if it.line and "error" not in it.reply]
     asked = [it for it in values if isinstance(it, dict) and it.get("do") in NAMING]
-    return list(dict.fromkeys((it.get("at", it.get("vertex")), tuple(it["time"])) for it in asked))
+    return list(dict.fromkeys((it.get("vertex", it.get("at")), tuple(it["time"])) for it in asked))
 
 
 class Copy:

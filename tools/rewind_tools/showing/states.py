@@ -1,4 +1,5 @@
 """What a page shows of a state, all of it as text."""
+from rewind_tools.script import HOLDING
 from rewind_tools.telling.commands import at, time_in
 
 
@@ -47,7 +48,7 @@ def place_counts(state, points, ops, most=None):
     for kind, counts in (("record", records), ("request", requests), ("token", tokens)):
         for place, by_time in counts.items():
             total, there, lines = times(by_time, most)
-            of = "held" if ops.get(place) == "hold" else kind + "s" * (total != "1")
+            of = "held" if ops.get(place) in HOLDING else kind + "s" * (total != "1")
             shown[points.order[place]] = {"n": total, "of": of, "when": there, "by": lines}
     for place, count in sinks.items():
         shown[points.order[place]] = {"n": str(count), "of": "counted", "when": "", "by": []}
@@ -78,7 +79,7 @@ def point_row(points, point, fronts):
 
 def kinds_of(processor, ops):
     """What one processor holds, by kind: the entries, and what words one of them. `ops` has the operator of
-    each vertex: a request at a hold is a capability, and a sum keeps one number."""
+    each vertex: a request at a hold or an opaque vertex is a capability, and a sum keeps one number."""
 
     def times_of(count):
         return f" \u00d7{count}" if count > 1 else ""
@@ -88,7 +89,7 @@ def kinds_of(processor, ops):
         return f"{at(place, time)}: {f'sum {count}' if ops[place] == 'sum' else f'has seen {item}'}"
 
     def is_held(it):
-        return ops[it[0]] == "hold"
+        return ops[it[0]] in HOLDING
 
     requests = processor["requests"]
     return {

@@ -1,8 +1,8 @@
 """The program's replies in words, with what a script's earlier replies told: the cursor, the kept steps, the
 breakpoints."""
 from rewind_tools.script import STEPS, literals_in
-from rewind_tools.telling.commands import at, command_words, condition, counted, processors, record, some_of
-from rewind_tools.telling.commands import time_in
+from rewind_tools.telling.commands import at, command_words, condition, counted, ports_words, processors
+from rewind_tools.telling.commands import record, some_of, time_in
 from rewind_tools.telling.effects import effect_words
 from rewind_tools.telling.forms import listed
 from rewind_tools.telling.reasons import why_words
@@ -72,7 +72,7 @@ class Teller:
     def absent_processors(self, value):
         """Which of the processors that an object names is none, and which there are; an empty text if all
         are there."""
-        asked = [value[key] for key in ("p", "q", "from", "to") if isinstance(value.get(key), int)]
+        asked = [value[key] for key in ("p", "q", "from", "to", "dest") if isinstance(value.get(key), int)]
         asked += value.get("only", [])
         absent = sorted({it for it in asked if self.processors is not None and it >= self.processors})
         there = (
@@ -124,12 +124,25 @@ def cursor(reply):
 def not_yet(teller, value, reply, before):
     there = at(value["vertex"], value["time"])
     said = f"processor {value['p']}'s view has {at(*reply['point'])} strictly before {there}"
-    is_held = value["vertex"] in teller.graph.holds
-    return f"{said}; {value['vertex']} is a hold, so it is never notified" if is_held else said
+    if value["vertex"] not in teller.graph.holds:
+        return said
+    return f"{said}; {value['vertex']} is {teller.graph.holder(value['vertex'])}, so it is never notified"
 
 
 def not_notified(teller, value, reply, before):
-    return f"{value['vertex']} is a hold: it is never notified, and holds its capability until a release"
+    what = f"{value['vertex']} is {teller.graph.holder(value['vertex'])}"
+    return f"{what}: it is never notified, and holds its capability until a release"
+
+
+def no_port(teller, value, reply, before):
+    has = ports_words(teller.graph.vertices[value["vertex"]]["ports"])
+    return f"{value['vertex']} has {has}, and the send names port {value['port']}"
+
+
+def too_early(teller, value, reply, before):
+    return (
+        f"{time_in(value['at'])} is not at or after {time_in(value['time'])}, the time of the capability"
+    )
 
 
 def not_later(teller, value, reply, before):
@@ -146,9 +159,10 @@ def not_later(teller, value, reply, before):
 
 def inadmissible(teller, value, reply, before):
     place = at(*reply["point"])
+    supports = ", nor a capability that it holds at an opaque vertex" if teller.graph.opaques else ""
     return (
         f"{place} would be left out, and is positive; strictly before it there is neither a negative entry"
-        f" that is left out, too, nor a token of processor {value['p']}"
+        f" that is left out, too, nor a token of processor {value['p']}{supports}"
     )
 
 
@@ -170,7 +184,7 @@ def no_record(teller, value, reply, before):
 
 
 def no_request(teller, value, reply, before):
-    if value["do"] == "release":
+    if value["do"] in ("send", "release"):
         return no_capability(teller, value, before)
     said = (
         f"{value['vertex']} on processor {value['p']} has not asked for a notification at"
@@ -184,9 +198,14 @@ def no_request(teller, value, reply, before):
 
 def no_capability(teller, value, before):
     """What is held instead: by this vertex of the processor, and at this time on other processors."""
-    name, holds = value["vertex"], teller.graph.holds
-    if name not in holds:
-        return f"{name} is {teller.graph.kind(name)} and no hold; holds: {some_of(sorted(holds))}"
+    name, graph = value["vertex"], teller.graph
+    for is_wanted, vertices, can in (
+        (True, graph.holds, "hold capabilities"),
+        (value["do"] == "send", graph.opaques, "send"),
+        (value.get("keep"), graph.opaques, "keep a capability beside a later one"),
+    ):
+        if is_wanted and name not in vertices:
+            return f"{name} is {graph.kind(name)}; vertices that {can}: {some_of(sorted(vertices))}"
     said = f"processor {value['p']} holds no capability at {at(name, value['time'])}"
     if before is None:
         return said
@@ -234,6 +253,8 @@ REFUSALS = {
     "NotYet": not_yet,
     "NotNotified": not_notified,
     "NotLater": not_later,
+    "NoPort": no_port,
+    "TooEarly": too_early,
     "CounterFull": lambda teller, value, reply, before: (
         f"{teller.graph.vertex_of(value)} would raise a counter past 4294967295"
     ),

@@ -57,11 +57,24 @@ def feed(it):
     )
 
 
+def capability(it):
+    return f"the capability that it holds at {at(it['vertex'], it['time'])}"
+
+
+def send(it):
+    """A send: the values, the port, and if they are given the time and the processor to which they go."""
+    when = f" at {time_in(it['at'])}" if "at" in it else ""
+    where = f" to processor {it['dest']}" if "dest" in it else ""
+    sent = f"{some_of(it['values'])} on port {it['port']}{when}{where}"
+    return f"processor {it['p']} sends {sent}, from {capability(it)}"
+
+
 def release(it):
-    held = f"the capability that it holds at {at(it['vertex'], it['time'])}"
     if "to" not in it:
-        return f"processor {it['p']} releases {held}"
-    return f"processor {it['p']} moves {held} to {time_in(it['to'])}"
+        return f"processor {it['p']} releases {capability(it)}"
+    if it.get("keep"):
+        return f"processor {it['p']} keeps {capability(it)}, and holds a later one at {time_in(it['to'])}"
+    return f"processor {it['p']} moves {capability(it)} to {time_in(it['to'])}"
 
 
 def run(it):
@@ -136,6 +149,7 @@ WORDS = {
         f"processor {it['p']} takes a {record(it['value'])} from {at(it['edge'], it['time'])}"
     ),
     "notice": lambda it: f"processor {it['p']} runs the notification of {at(it['vertex'], it['time'])}",
+    "send": send,
     "release": release,
     "broadcast": broadcast,
     "receive": lambda it: (
@@ -167,9 +181,22 @@ WORDS = {
 }
 
 
+def ports_words(count):
+    """The output ports of a vertex that has so many."""
+    few = ("no port", "port 0 alone", "the ports 0 and 1")
+    return few[count] if count < len(few) else f"the ports 0 to {count - 1}"
+
+
+def op_words(it):
+    """A vertex's operator with its number, or of an opaque vertex with its ports."""
+    if "ports" in it:
+        starts = ", starts with a capability" if it.get("starts") else ""
+        return f"{it['op']}, {counted(it['ports'], 'port')}{starts}"
+    return f"{it['op']} {it['k']}" if "k" in it else it["op"]
+
+
 def vertex_words(it):
-    number = f" {it['k']}" if "k" in it else ""
-    return f"{it['name']} ({it['op']}{number}{', depth ' + str(it['depth']) if it['depth'] else ''})"
+    return f"{it['name']} ({op_words(it)}{', depth ' + str(it['depth']) if it['depth'] else ''})"
 
 
 def edge_words(it):

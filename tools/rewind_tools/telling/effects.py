@@ -15,7 +15,7 @@ def token(it):
 
 
 def capability(it):
-    """A request at a hold vertex."""
+    """A request at a vertex that holds capabilities."""
     p, vertex, time, _, new = it
     holds = "holds a capability" if new else "no longer holds a capability"
     return f"processor {p} {holds} at {at(vertex, time)}"
@@ -65,8 +65,8 @@ KINDS = {
 
 
 def effect_words(changed, holds=NO_HOLDS, distincts=NO_HOLDS):
-    """A sentence for each place that the step changed, the tokens, records and requests first; 'holds' and
-    'distincts' have the names of the vertices of these operators."""
+    """A sentence for each place that the step changed, the tokens, records and requests first; 'holds' has
+    the names of the vertices that hold capabilities, 'distincts' those of the distinct vertices."""
     kinds = {
         **KINDS,
         "requests": lambda it: capability(it) if it[1] in holds else request(it),

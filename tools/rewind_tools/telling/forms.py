@@ -11,6 +11,7 @@ from rewind_tools.script import (
     LITERALS_SINCE,
     MOST_LITERALS,
     MOST_ONLY,
+    NEEDED_BY,
     NEXT_TO_SINCE,
     NEXTS,
     OPTIONAL,
@@ -47,8 +48,8 @@ SAMPLES = {
 # The same under a key for which the sample of its kind says little.
 KEY_SAMPLES = {"limit": "1000", "workers": "1"}
 KINDS = {
-    "small": SMALL, "whole": WHOLE, "signed": SIGNED, "vertex": VERTEX, "edge": EDGE, "place": PLACE,
-    "time": TIME, "point": POINT,
+    "small": SMALL, "port": SMALL, "whole": WHOLE, "signed": SIGNED, "vertex": VERTEX, "edge": EDGE,
+    "place": PLACE, "time": TIME, "point": POINT,
     "points": POINTS, "values": VALUES, "next": NEXT, "when": WHEN, "flag": FLAG, "processors": PROCESSORS,
 }  # fmt: skip
 
@@ -75,9 +76,11 @@ def listed(words, last="and"):
     )
 
 
-def may_lack(value, key):
+def may_lack(value, key, form):
     """Whether an object that has the right word may leave a key of its form out."""
-    return key in OPTIONAL.get(value.get("do"), {})
+    word = value.get("do")
+    needed_by = NEEDED_BY.get((word, key))
+    return key in OPTIONAL.get(word, {}) and not (needed_by in form and needed_by in value)
 
 
 def form_shown(form, value=None, version=LAST):
@@ -85,7 +88,7 @@ def form_shown(form, value=None, version=LAST):
     none."""
     value = value or {}
     kept = kept_values(value, form)
-    wanted = {key: kind for key, kind in form.items() if key in kept or not may_lack(value, key)}
+    wanted = {key: kind for key, kind in form.items() if key in kept or not may_lack(value, key, form)}
     return (
         "{"
         + ",".join(f"{shown(key)}:{member_shown(key, kind, kept, version)}" for key, kind in wanted.items())
@@ -121,7 +124,7 @@ def meant_keys(value, form):
 
 
 def missing_keys(value, form):
-    return [key for key in form if key not in value and not may_lack(value, key)]
+    return [key for key in form if key not in value and not may_lack(value, key, form)]
 
 
 def keys_faults(value, form, where=""):

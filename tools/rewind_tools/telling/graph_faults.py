@@ -1,12 +1,12 @@
 """What is wrong with a graph that the program has refused, by the number of its answer: where in the line,
 and what is right."""
-from rewind_tools.script import LAST, NUMBERED_OPS, OPS_SINCE, PLAIN_OPS, ops_of
+from rewind_tools.script import LAST, MOST_PORTS, OPS, OPS_SINCE, OPTIONAL_OF_OPS, ops_of
 from rewind_tools.telling import habits, values
 from rewind_tools.telling.forms import came_with, keys_faults, listed, nearest, value_faults
-from rewind_tools.telling.forms import SIGNED, SMALL
+from rewind_tools.telling.commands import ports_words
+from rewind_tools.telling.forms import FLAG, SIGNED, SMALL
 from rewind_tools.telling.values import shown
 
-MOST = 64
 BEYOND = {"ingress": 1, "egress": -1}
 
 
@@ -24,12 +24,18 @@ REFERRED = ("the name of a vertex, a text", values.text)
 ROUTE = values.one_of("local", "exchange")
 EDGE = {"name": NAME, "from": REFERRED, "port": SMALL, "to": REFERRED, "route": ROUTE}
 ANY_LIST = values.list_of(lambda it: None)
+KINDS_OF_OPS = {"signed": SIGNED, "ports": values.number((0, MOST_PORTS)), "flag": FLAG}
 GRAPH = {"vertices": ("a list of vertices", ANY_LIST), "edges": ("a list of edges", ANY_LIST)}
 
 
 def deepest(version):
     """The greatest depth in a script of a version."""
     return 4 if version == 1 else 6
+
+
+def most_locations(version):
+    """How many vertices and edges a graph may have in a script of a version."""
+    return 64 if version < 6 else 256
 
 
 def graph_first(version):
@@ -103,13 +109,13 @@ def op_hint(op, version):
 
 
 def form_of_vertex(value, version):
-    """The form of a vertex of this op; if the op is none, a number k may be there."""
+    """The form of a vertex of this op; if the op is none, the keys may be there that some op has."""
     op = value.get("op")
     form = {"name": NAME, "op": values.one_of(*ops_of(version)), "depth": SMALL}
-    if op in PLAIN_OPS:
-        return form
-    is_there = op in NUMBERED_OPS or "k" in value
-    return {**form, "k": SIGNED} if is_there else form
+    is_known = isinstance(op, str) and op in OPS
+    keys = OPS[op] if is_known else {key: kind for of in OPS.values() for key, kind in of.items()}
+    is_needed = {key: is_known and key not in OPTIONAL_OF_OPS for key in keys}
+    return form | {key: KINDS_OF_OPS[kind] for key, kind in keys.items() if is_needed[key] or key in value}
 
 
 def part_shown(key, at, value):
@@ -152,15 +158,15 @@ def unknown_names(graph):
 
 def bad_ports(graph):
     """The edges that leave a vertex on a port that it has not, or enter an input."""
-    ops = {it["name"]: it["op"] for it in graph["vertices"]}
+    vertices = {it["name"]: it for it in graph["vertices"]}
     faults = []
     for edge in graph["edges"]:
-        ports = {"sink": 0, "split": 2}.get(ops[edge["from"]], 1)
+        op = vertices[edge["from"]]["op"]
+        ports = vertices[edge["from"]].get("ports", {"sink": 0, "split": 2}.get(op, 1))
         if edge["port"] >= ports:
-            has = ("no port", "port 0 alone", "the ports 0 and 1")[ports]
-            start = f"the edge {shown(edge['name'])} leaves the {ops[edge['from']]} {shown(edge['from'])}"
-            faults.append(f"{start} on port {edge['port']}, which has {has}")
-        if ops[edge["to"]] == "input":
+            start = f"the edge {shown(edge['name'])} leaves the {op} {shown(edge['from'])}"
+            faults.append(f"{start} on port {edge['port']}, which has {ports_words(ports)}")
+        if vertices[edge["to"]]["op"] == "input":
             faults.append(f"the edge {shown(edge['name'])} enters {shown(edge['to'])}, which is an input")
     return faults
 
@@ -190,8 +196,9 @@ def wrong_depths(graph):
 
 def too_large(graph, version):
     """What passes the limits of a version."""
-    count = len(graph["vertices"]) + len(graph["edges"])
-    faults = [f"there are {count} vertices and edges; at most {MOST} may be"] if count > MOST else []
+    count, most = len(graph["vertices"]) + len(graph["edges"]), most_locations(version)
+    later = f"; in version {LAST} at most {most_locations(LAST)}" if most < most_locations(LAST) else ""
+    faults = [f"there are {count} vertices and edges; at most {most} may be{later}"] if count > most else []
     most, later = deepest(version), "; in later versions at most 6" if version == 1 else ""
     for it in graph["vertices"]:
         if it["depth"] > most:

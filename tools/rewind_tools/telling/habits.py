@@ -40,9 +40,13 @@ HABITS = {
         " undoes one"
     ),
     ("undo", "u"): sentence('{"do":"back"} undoes the last step'),
-    ("downgrade", "delay", "delayed"): sentence(
+    ("downgrade",): sentence(
         '{"do":"release","p":0,"vertex":"h","time":[0],"to":[1]} moves a held capability to a later time, in'
         " version 5"
+    ),
+    ("delay", "delayed"): sentence(
+        '{"do":"release","p":0,"vertex":"x","time":[0],"to":[1],"keep":true} makes a later capability from'
+        " one that stays, at an opaque vertex, in version 6"
     ),
     ("drop",): sentence(
         '{"do":"release","p":0,"vertex":"h","time":[0]} releases a held capability, in version 5'

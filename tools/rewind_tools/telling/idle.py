@@ -11,7 +11,7 @@ NOTHING_LEFT = "no record, request, unsent entry or change on its way"
 
 def steps_left(state, holds):
     """The steps that a state suggests, each with the words for what it would move; 'holds' has the names of
-    the hold vertices."""
+    the vertices that hold capabilities."""
     for p, it in enumerate(state["processors"]):
         for edge, time, value, _ in it["records"]:
             yield {

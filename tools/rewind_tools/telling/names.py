@@ -3,7 +3,7 @@ depth."""
 import json
 
 from rewind_tools.runs import answers_after
-from rewind_tools.script import literals_in
+from rewind_tools.script import HOLDING, literals_in
 from rewind_tools.telling import forms
 from rewind_tools.telling.commands import vertex_words
 from rewind_tools.telling.graph_faults import deepest
@@ -14,9 +14,14 @@ SEVERAL = 8
 WANTED = {id(VERTEX): "vertex", id(EDGE): "edge", id(PLACE): "place"}
 
 
-def holds_of(graph, op="hold"):
-    """The names of a graph's hold vertices, or of those of another operator."""
-    return {it["name"] for it in graph["vertices"] if it["op"] == op}
+def named_of(graph, *ops):
+    """The names of a graph's vertices of some operators."""
+    return {it["name"] for it in graph["vertices"] if it["op"] in ops}
+
+
+def holds_of(graph):
+    """The names of the vertices whose requests are held capabilities."""
+    return named_of(graph, *HOLDING)
 
 
 class Graph:
@@ -26,7 +31,8 @@ class Graph:
         self.value, self.version = value, version
         self.vertices = {it["name"]: it for it in value["vertices"]}
         self.edges = {it["name"]: it for it in value["edges"]}
-        self.holds, self.distincts = holds_of(value), holds_of(value, "distinct")
+        self.holds, self.distincts = holds_of(value), named_of(value, "distinct")
+        self.opaques = named_of(value, "opaque")
         self.order = {name: at for at, name in enumerate([*self.vertices, *self.edges])}
 
     def named(self, wanted):
@@ -38,6 +44,11 @@ class Graph:
         """The vertex that a take or a notice runs."""
         name = self.edges[value["edge"]]["to"] if "edge" in value else value["vertex"]
         return vertex_words(self.vertices[name])
+
+    def holder(self, name):
+        """What a vertex that holds capabilities is."""
+        op = self.vertices[name]["op"]
+        return "opaque" if op == "opaque" else f"a {op}"
 
     def kind(self, name):
         """What a name is that of."""

@@ -14,8 +14,8 @@ def owners(kind, holders):
 
 
 def held_words(held, holds):
-    """All that is held at a point: its records by processor, then the requests, which at a hold vertex are
-    capabilities, and the tokens."""
+    """All that is held at a point: its records by processor, then the requests, which are capabilities at
+    a vertex that holds them, and the tokens."""
     records = [
         f"{counted(it['n'], 'record')} of value {it['value']} on processor {it['p']}"
         for it in held
@@ -39,7 +39,7 @@ def unheard_word(it):
 
 def reason_words(reason, holds=NO_HOLDS):
     """One reason: what is still counted at its point, what is held there, and where the news is that was not
-    heard. 'holds' has the names of the hold vertices."""
+    heard. 'holds' has the names of the vertices that hold capabilities."""
     unheard = some_of(map(unheard_word, reason["unheard"]))
     news = f"; not heard: {unheard}" if reason["unheard"] else ""
     held = held_words(reason["held"], holds)

@@ -2,6 +2,7 @@ use Rattle.std.proofs.Common.{◌≡◌, ◌≤◌, ◌+◌, ℕ, List, [], ◌�
 use Rattle.std.proofs.lemmas.Map.Views.{tells_apart}
 use Rattle.std.specs.Ordering.{eq_by_cmp}
 use Rattle.nd_time.specs.Limits.{max_depth}
+use Rattle.nd_graph.specs.Graph.{action_of}
 use Rattle.nd_graph.specs.declared.graph.Edge.{Edge}
 use Rattle.nd_paths.specs.Point.{point_cmp, point_total, point_exact}
 use Rattle.nd_paths.specs.declared.point.Pointstamp.{Pointstamp}
@@ -45,7 +46,7 @@ returns-clause-comes g c =
     record {
       to = to;
       edge = edge;
-      is = c.record_on-come.ensures ∙ ap (λ a. Record a to edge e.value) c.action_at-action.ensures;
+      is = c.record_on-come.ensures ∙ ap (λ a. Record a to edge e.value) (c.action-action.ensures ∙ ap action_of c.op_at.ensures.op);
       made = one_made by.graph.now by.n by.p by.vertex e (c.in_ok-i.i, c.in_ok-i.route) only to edge (λ i. to) (c.edge_at-edge.ensures ∙ ap (λ l. l + c.in_ok-i.i) c.first_edge.ensures.first);
       apart = λ same. true≢false (sym (same_key point_total gone.point)
           ∙ ap (λ x. eq_by_cmp point_cmp x gone.point) (sym same)

@@ -3,18 +3,18 @@ use Rattle.std.proofs.Common.{◌≡◌, ◌∙◌, inl, inr, ap, sym}
 use Rattle.std.specs.List.{list_any}
 use Rattle.serde_json.specs.Data.{Data}
 use Rattle.serde_json.specs.View.{view}
-use Rattle.nd_graph.specs.Draft.{Draft, draft_of, draft_of_v4, without_hold, is_hold}
+use Rattle.nd_graph.specs.Draft.{Draft, draft_of_v5, draft_of_v4, without, is_hold}
 use Rattle.nd_graph.specs.Fault.{IsUnlessMemory}
 use Rattle.nd_graph.specs.declared.fault.GraphFault.{GraphFault}
 use Rattle.nd_graph.specs.declared.fault.GraphFault.TheVariants.{Shape}
 use Rattle.nd_graph.proofs.draft.GraphDraft.from_value_v4.Goals as goal
 
 -- a value that is not a graph is not a graph without hold vertices either
-refused : (d : Data) (e : GraphFault) → IsUnlessMemory (ok_or (draft_of d) Shape) (Err e) → IsUnlessMemory (ok_or (draft_of_v4 d) Shape) (Err e)
+refused : (d : Data) (e : GraphFault) → IsUnlessMemory (ok_or (draft_of_v5 d) Shape) (Err e) → IsUnlessMemory (ok_or (draft_of_v4 d) Shape) (Err e)
 unfolding draft_of_v4
-refused d e h = passes (draft_of d) h
+refused d e h = passes (draft_of_v5 d) h
   where
-    passes : (o : Option Draft) → IsUnlessMemory (ok_or o Shape) (Err e) → IsUnlessMemory (ok_or (option_and_then without_hold o) Shape) (Err e)
+    passes : (o : Option Draft) → IsUnlessMemory (ok_or o Shape) (Err e) → IsUnlessMemory (ok_or (option_and_then (without is_hold) o) Shape) (Err e)
     passes None h = h
     passes (Some draft) (inl is) = absurd (cc)
     passes (Some draft) (inr is) = inr is
@@ -24,21 +24,21 @@ found None draft is = absurd (cc)
 found (Some other) draft is = cc
 
 -- the graph that was read, if it has no hold vertex
-judged : (d : Data) (draft : Draft) (b : Bool) → ok_or (draft_of d) Shape ≡ Ok draft → b ≡ list_any is_hold draft.vertices → ok_or (draft_of_v4 d) Shape ≡ ok_or (if b then None else Some draft) Shape
+judged : (d : Data) (draft : Draft) (b : Bool) → ok_or (draft_of_v5 d) Shape ≡ Ok draft → b ≡ list_any (λ v. is_hold v.op) draft.vertices → ok_or (draft_of_v4 d) Shape ≡ ok_or (if b then None else Some draft) Shape
 unfolding draft_of_v4
-judged d draft b is holds = ap (λ o. ok_or (option_and_then without_hold o) Shape) (found (draft_of d) draft is) ∙ ap (λ b. ok_or (if b then None else Some draft) Shape) (sym holds)
+judged d draft b is holds = ap (λ o. ok_or (option_and_then (without is_hold) o) Shape) (found (draft_of_v5 d) draft is) ∙ ap (λ b. ok_or (if b then None else Some draft) Shape) (sym holds)
 
 pub returns-in-Err : goal.returns-in-Err
 returns-in-Err g c = refused (view c.args.value.now) c.in-Err.fault c.in-Err.ensures
 
 pub returns-then-some_holds : goal.returns-then-some_holds
 returns-then-some_holds g c =
-    let holds : true ≡ list_any is_hold c.in-Ok.draft.vertices =
-    sym c.if-some_holds.true ∙ c.some_holds.ensures ∙ ap (list_any is_hold) (c.deref.ensures.value ∙ ap (λ d. d.vertices) c.draft.view_is) in
+    let holds : true ≡ list_any (λ v. is_hold v.op) c.in-Ok.draft.vertices =
+    sym c.if-some_holds.true ∙ c.some_holds.ensures ∙ ap (list_any (λ v. is_hold v.op)) (c.deref.ensures.value ∙ ap (λ d. d.vertices) c.draft.view_is) in
     inl (judged (view c.args.value.now) c.in-Ok.draft true c.in-Ok.ensures holds)
 
 pub returns : goal.returns
 returns g c =
-    let holds : false ≡ list_any is_hold c.in-Ok.draft.vertices =
-    sym c.if-some_holds.false ∙ c.some_holds.ensures ∙ ap (list_any is_hold) (c.deref.ensures.value ∙ ap (λ d. d.vertices) c.draft.view_is) in
+    let holds : false ≡ list_any (λ v. is_hold v.op) c.in-Ok.draft.vertices =
+    sym c.if-some_holds.false ∙ c.some_holds.ensures ∙ ap (list_any (λ v. is_hold v.op)) (c.deref.ensures.value ∙ ap (λ d. d.vertices) c.draft.view_is) in
     judged (view c.args.value.now) c.in-Ok.draft false c.in-Ok.ensures holds

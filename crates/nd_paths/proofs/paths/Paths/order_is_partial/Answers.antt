@@ -1,5 +1,3 @@
-use Rattle.std.proofs.Common.{sym}
-use Rattle.nd_paths.proofs.TableLemmas.{table_as}
 use Rattle.nd_paths.proofs.PointOrder.{could_trans, could_antisym, strictly_trans}
 use Rattle.nd_paths.proofs.Minimal.{minimal_point}
 use Rattle.nd_paths.proofs.paths.Paths.order_is_partial.Goals as goal
@@ -8,16 +6,10 @@ pub returns-clause-transitive : goal.returns-clause-transitive
 returns-clause-transitive g c = could_trans c.args.self.now
 
 pub returns-clause-antisymmetric : goal.returns-clause-antisymmetric
-returns-clause-antisymmetric g c =
-    let table = table_as c.self.inside.graph c.args.self.now c.self.inside.rows.items (sym c.self.view_is) c.self.invariant in
-    λ s t. could_antisym c.args.self.now s t table.accepted
+returns-clause-antisymmetric g c = λ s t. could_antisym c.args.self.now s t c.rows.ensures.accepted
 
 pub returns-clause-strict : goal.returns-clause-strict
-returns-clause-strict g c =
-    let table = table_as c.self.inside.graph c.args.self.now c.self.inside.rows.items (sym c.self.view_is) c.self.invariant in
-    λ s t u. strictly_trans c.args.self.now s t u table.accepted
+returns-clause-strict g c = λ s t u. strictly_trans c.args.self.now s t u c.rows.ensures.accepted
 
 pub returns-clause-minimal : goal.returns-clause-minimal
-returns-clause-minimal g c =
-    let table = table_as c.self.inside.graph c.args.self.now c.self.inside.rows.items (sym c.self.view_is) c.self.invariant in
-    minimal_point c.args.self.now c.self.inside.rows.items table
+returns-clause-minimal g c = minimal_point c.args.self.now c.rows.result.now c.rows.ensures
