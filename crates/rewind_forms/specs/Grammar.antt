@@ -5,7 +5,7 @@ use Rattle.serde_json.specs.Data.{Data}
 use Rattle.nd_json.specs.Forms.{has_keys, text_at}
 use Rattle.rewind_forms.specs.Versions.{includes}
 use Rattle.rewind_forms.specs.declared.version.Version.{Version}
-use Rattle.rewind_forms.specs.declared.version.Version.TheVariants.{First, Second, Third, Fourth, Fifth, Sixth}
+use Rattle.rewind_forms.specs.declared.version.Version.TheVariants.{First, Second, Third, Fourth, Fifth, Sixth, Seventh}
 use Rattle.rewind_forms.specs.declared.form.Form.{Form}
 use Rattle.rewind_forms.specs.declared.form.Form.TheVariants.{Step, Command, Query}
 use Rattle.rewind_forms.specs.declared.form.StepForm.{StepForm}
@@ -45,6 +45,8 @@ commands =
     ∷ (codes "jump", codes "do" ∷ codes "to" ∷ [], command.Jump)
     ∷ (codes "run", codes "do" ∷ codes "limit" ∷ [], command.Run)
     ∷ (codes "run", codes "do" ∷ codes "limit" ∷ codes "only" ∷ [], command.RunOnly)
+    ∷ (codes "run", codes "do" ∷ codes "limit" ∷ codes "seed" ∷ [], command.RunBySeed)
+    ∷ (codes "run", codes "do" ∷ codes "limit" ∷ codes "only" ∷ codes "seed" ∷ [], command.RunOnlyBySeed)
     ∷ (codes "break", codes "do" ∷ codes "when" ∷ [], command.Break)
     ∷ (codes "unbreak", codes "do" ∷ codes "id" ∷ [], command.Unbreak)
     ∷ []
@@ -89,6 +91,8 @@ command_since command.Redo = First
 command_since command.Jump = First
 command_since command.Run = First
 command_since command.RunOnly = Fifth
+command_since command.RunBySeed = Seventh
+command_since command.RunOnlyBySeed = Seventh
 command_since command.Break = First
 command_since command.Unbreak = First
 

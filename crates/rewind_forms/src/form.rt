@@ -44,6 +44,10 @@ pub enum CommandForm {
     Run,
     /// A run of some processors.
     RunOnly,
+    /// A run that chooses by a seed.
+    RunBySeed,
+    /// A run of some processors that chooses by a seed.
+    RunOnlyBySeed,
     Break,
     Unbreak,
 }
@@ -103,6 +107,7 @@ impl CommandForm {
             | CommandForm::Break
             | CommandForm::Unbreak => Version::First,
             CommandForm::RunOnly => Version::Fifth,
+            CommandForm::RunBySeed | CommandForm::RunOnlyBySeed => Version::Seventh,
         }
     }
 }
@@ -221,6 +226,10 @@ fn command_form(word: &str, value: &Value) -> Option<CommandForm>
         "jump" if has_keys(value, &["do", "to"]) => Some(CommandForm::Jump),
         "run" if has_keys(value, &["do", "limit"]) => Some(CommandForm::Run),
         "run" if has_keys(value, &["do", "limit", "only"]) => Some(CommandForm::RunOnly),
+        "run" if has_keys(value, &["do", "limit", "seed"]) => Some(CommandForm::RunBySeed),
+        "run" if has_keys(value, &["do", "limit", "only", "seed"]) => {
+            Some(CommandForm::RunOnlyBySeed)
+        }
         "break" if has_keys(value, &["do", "when"]) => Some(CommandForm::Break),
         "unbreak" if has_keys(value, &["do", "id"]) => Some(CommandForm::Unbreak),
         _ => None,
