@@ -22,7 +22,7 @@ fn may_run<A: Allocator>(only: Option<&Processors<A>>, p: u32) -> bool
 
 impl<A: Allocator + Copy> Cluster<A> {
     // Returns the record of a step, or none if the step is refused.
-    fn tried(&self, step: Step<A>) -> Result<Option<Record<A>>, NoMemory>
+    pub(crate) fn tried(&self, step: Step<A>) -> Result<Option<Record<A>>, NoMemory>
         ensures { IfOk result (Tries self.now step) }
     {
         match self.plan_of(step) {

@@ -69,6 +69,8 @@ queries =
     ∷ (codes "turns", codes "do" ∷ codes "hi" ∷ codes "lo" ∷ codes "when" ∷ [], query.Turns)
     ∷ (codes "frontier", codes "at" ∷ codes "do" ∷ codes "q" ∷ [], query.FrontierAt)
     ∷ (codes "why", codes "at" ∷ codes "before" ∷ codes "do" ∷ codes "q" ∷ codes "time" ∷ [], query.WhyBefore)
+    ∷ (codes "reach", codes "do" ∷ codes "limit" ∷ codes "when" ∷ [], query.Reach)
+    ∷ (codes "reach", codes "do" ∷ codes "limit" ∷ codes "when" ∷ codes "with" ∷ [], query.ReachWith)
     ∷ []
 
 -- ---- the first version whose scripts have a form
@@ -113,6 +115,8 @@ query_since query.Effect = Fourth
 query_since query.Turns = Fourth
 query_since query.FrontierAt = Fourth
 query_since query.WhyBefore = Fourth
+query_since query.Reach = Seventh
+query_since query.ReachWith = Seventh
 
 abbrev pub since : Form → Version
 since (Step form) = step_since form

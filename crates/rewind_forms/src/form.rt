@@ -74,6 +74,9 @@ pub enum QueryForm {
     /// Why a processor does not consider everything strictly before a pointstamp finished, if the
     /// key `before` is true.
     WhyBefore,
+    Reach,
+    /// The same with the key `with`, which lets users feed or release.
+    ReachWith,
 }
 
 impl StepForm {
@@ -132,6 +135,7 @@ impl QueryForm {
             | QueryForm::Turns
             | QueryForm::FrontierAt
             | QueryForm::WhyBefore => Version::Fourth,
+            QueryForm::Reach | QueryForm::ReachWith => Version::Seventh,
         }
     }
 }
@@ -262,6 +266,10 @@ fn query_form(word: &str, value: &Value) -> Option<QueryForm>
         "frontier" if has_keys(value, &["at", "do", "q"]) => Some(QueryForm::FrontierAt),
         "why" if has_keys(value, &["at", "before", "do", "q", "time"]) => {
             Some(QueryForm::WhyBefore)
+        }
+        "reach" if has_keys(value, &["do", "limit", "when"]) => Some(QueryForm::Reach),
+        "reach" if has_keys(value, &["do", "limit", "when", "with"]) => {
+            Some(QueryForm::ReachWith)
         }
         _ => None,
     }
