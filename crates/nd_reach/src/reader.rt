@@ -4,7 +4,7 @@ ghost use Rattle.nd_protocol.specs.Ranges.{IsValue, TimeIsSmall};
 ghost use Rattle.nd_reach.specs.Bytes.{FitsWord, Reads, integer as integer_form, number as number_form, entry as entry_form, point as point_form, time as time_form};
 ghost use Rattle.nd_reach.specs.Reading.{EntryFits, PointFits, TimeFits};
 
-use crate::bytes::{EIGHT, FOUR, TWO};
+use crate::bytes::{EIGHT, EPOCH, FOUR, TWO};
 use nd_paths::Pointstamp;
 use nd_time::{MAX_DEPTH, Timestamp};
 use std::marker::Model;
@@ -93,8 +93,9 @@ impl<'a> Reader<'a> {
     pub(crate) fn time(&mut self) -> Timestamp
         ensures { Reads TimeFits time_form self.old result self.new }
     {
-        let epoch = self.small();
-        let count = (self.number() as usize).min(MAX_DEPTH);
+        let head = self.number();
+        let epoch = u32::try_from(head / EPOCH).unwrap_or(0);
+        let count = (head % EPOCH) as usize;
         let mut counters = [0; MAX_DEPTH];
         for i in 0..count {
             counters[i] = self.small();
