@@ -3,9 +3,10 @@ use Rattle.std.proofs.Common.{◌≡◌, inl, inr, ℕ, ◌+◌, List, [], ◌�
 use Rattle.nd_protocol.specs.State.{ClusterState}
 use Rattle.nd_protocol.specs.Enabled.{IsEnabled}
 use Rattle.nd_protocol.specs.declared.step.Step.{Step}
-use Rattle.nd_cluster.specs.Choice.{Chooses, candidates_from}
+use Rattle.nd_cluster.specs.Choice.{Chooses}
 use Rattle.nd_breaks.specs.Breaks.{BreakMap, NoHit}
 use Rattle.nd_timeline.specs.Timeline.{TimelineValue, cluster_of, extended}
+use Rattle.nd_timeline.specs.Seeds.{tried}
 use Rattle.nd_timeline.specs.Moves.{HasRun, Goes}
 
 pub one_choice : {A : Type 0} (s : ClusterState) (xs : List (Step A)) (choice other : Option (Step A)) → Chooses s xs choice → Chooses s xs other → choice ≡ other
@@ -20,22 +21,22 @@ chosen_enabled s [] x h = absurd (cc (h))
 chosen_enabled s (y ∷ xs) x (inl h) = let same : y ≡ x = cc (h.1) in subst (IsEnabled s) same h.0
 chosen_enabled s (y ∷ xs) x (inr h) = chosen_enabled s xs x h.1
 
-pub goes_enabled : {A : Type 0} (only : Option (List ℕ)) (m new : TimelineValue A) (x : Step A) → Goes only m x new → IsEnabled (cluster_of m) x
-goes_enabled only m new x h = chosen_enabled (cluster_of m) (candidates_from (cluster_of m) m.cursor only) x h.chosen
+pub goes_enabled : {A : Type 0} (only : Option (List ℕ)) (seed : Option ℕ) (m new : TimelineValue A) (x : Step A) → Goes only seed m x new → IsEnabled (cluster_of m) x
+goes_enabled only seed m new x h = chosen_enabled (cluster_of m) (tried (cluster_of m) m.cursor only seed) x h.chosen
 
-module _ {A : Type 0} (only : Option (List ℕ)) (breaks : BreakMap) where
-  pub not_run : (m : TimelineValue A) → HasRun only breaks 0 m m
+module _ {A : Type 0} (only : Option (List ℕ)) (seed : Option ℕ) (breaks : BreakMap) where
+  pub not_run : (m : TimelineValue A) → HasRun only seed breaks 0 m m
   unfolding HasRun
   not_run m = refl
 
   -- one more step, after which the run did not stop
-  pub run_on : (n : ℕ) (m mid new : TimelineValue A) (x : Step A) → HasRun only breaks n m mid → Goes only mid x new → NoHit breaks (cluster_of new) → HasRun only breaks (n + 1) m new
+  pub run_on : (n : ℕ) (m mid new : TimelineValue A) (x : Step A) → HasRun only seed breaks n m mid → Goes only seed mid x new → NoHit breaks (cluster_of new) → HasRun only seed breaks (n + 1) m new
   unfolding HasRun
-  run_on n m mid new x earlier last no_hit = subst (λ k. HasRun only breaks k m new) (sym (add-one n)) (record { mid = mid; step = x; earlier = earlier; last = last; no_hit = no_hit })
+  run_on n m mid new x earlier last no_hit = subst (λ k. HasRun only seed breaks k m new) (sym (add-one n)) (record { mid = mid; step = x; earlier = earlier; last = last; no_hit = no_hit })
 
-  pub goes : (s new : TimelineValue A) (at : ℕ) (k : ClusterState) (x : Step A) → at ≡ s.cursor → k ≡ cluster_of s → Chooses k (candidates_from k at only) (Some x) → new ≡ extended s x → Goes only s x new
+  pub goes : (s new : TimelineValue A) (at : ℕ) (k : ClusterState) (x : Step A) → at ≡ s.cursor → k ≡ cluster_of s → Chooses k (tried k at only seed) (Some x) → new ≡ extended s x → Goes only seed s x new
   goes s new at k x is cluster chosen made = record {
-    chosen = subst (λ at. Chooses (cluster_of s) (candidates_from (cluster_of s) at only) (Some x)) is (subst (λ k. Chooses k (candidates_from k at only) (Some x)) cluster chosen);
+    chosen = subst (λ at. Chooses (cluster_of s) (tried (cluster_of s) at only seed) (Some x)) is (subst (λ k. Chooses k (tried k at only seed) (Some x)) cluster chosen);
     made = made;
   }
 

@@ -108,7 +108,7 @@ fn run<A: Allocator + Copy>(alloc: A, timeline: &mut Timeline<A>) -> Option<()> 
     run_all(timeline, 10, &breaks).ok()?;
     timeline.jump(1).ok()?;
     let only = Some(processors_of(alloc, &[0, 0])?);
-    timeline.run(10, only.as_ref(), &breaks).ok()?;
+    timeline.run(10, only.as_ref(), None, &breaks).ok()?;
     Some(())
 }
 

@@ -1,0 +1,7 @@
+pub mod Bytes
+pub mod Forms
+pub mod Reading
+pub mod Ways
+pub mod Reach
+pub mod Found
+pub mod Faults
