@@ -1,8 +1,9 @@
 -- The choice among a list of steps.
-use Rattle.std.proofs.Common.{◌≡◌, ◌-◌, ◌%◌, ◌++◌, inl, inr, ℕ, List, [], ◌∷◌, length, take, drop, Option, Some, None, refl, sym, ap, subst, ◌∙◌, arith}
+use Rattle.std.proofs.Common.{◌≡◌, ◌-◌, ◌%◌, ◌++◌, inl, inr, ℕ, zero, suc, List, [], ◌∷◌, length, take, drop, Option, Some, None, refl, sym, ap, subst, ◌∙◌, arith}
 use Rattle.std.specs.Prelude.{◌↔◌, Contains, IsNone, option_map}
 use Rattle.std.specs.List.{range_with_len}
-use Rattle.std.proofs.lemmas.List.{take-append-drop}
+use Rattle.std.proofs.Math.Seq.{drop-nil}
+use Rattle.std.proofs.lemmas.List.{take-append-drop, nil_from_length}
 use Rattle.std.proofs.lemmas.List.Concat.{flat_map-append}
 use Rattle.std.proofs.lemmas.List.Elements.{All-nil, All-cons, All-append, All-take, All-drop, All-weaker, All-contains, Contains-append_left, Contains-append_right, Contains-append_cases, Contains-push}
 use Rattle.nd_protocol.specs.State.{ClusterState}
@@ -10,7 +11,7 @@ use Rattle.nd_protocol.specs.Enabled.{IsEnabled}
 use Rattle.nd_protocol.specs.declared.step.Step.{Step}
 use Rattle.nd_steps.specs.declared.record.Record.{Record}
 use Rattle.nd_cluster.specs.Candidates.{candidates_if, candidates_on, IsAmong, AreComplete}
-use Rattle.nd_cluster.specs.Choice.{candidates_from, turned_to, Chooses, AreRefused, Finds}
+use Rattle.nd_cluster.specs.Choice.{candidates_from, turned_to, turned_by, Chooses, AreRefused, Finds}
 
 module _ {A : Type 0} (s : ClusterState) where
   -- all of xs are refused
@@ -80,3 +81,20 @@ module _ {A : Type 0} (s : ClusterState) where
           | inr second ↦ Contains-append_left (drop j xs) (take j xs) x second
         ];
   }
+
+  module _ (lot : ℕ) (xs : List (Step A)) where
+    pub turned_none : length xs ≡ 0 → Finds {A = A} s (turned_by lot xs) None
+    turned_none none = subst (λ (ys : List (Step A)). Finds {A = A} s (turned_by lot ys) None) (sym (nil_from_length xs none)) (subst (λ (ys : List (Step A)). Chooses s (ys ++ take (lot % 0) []) None) (sym (drop-nil (lot % 0))) (nothing (lot % 0)), tt)
+      where
+        nothing : (n : ℕ) → Chooses {A = A} s (take n []) None
+        nothing zero = refl
+        nothing (suc n) = refl
+
+    pub turned_sooner : (later : List (Step A)) (r : Record A) → later ≡ drop (lot % length xs) xs → Finds s later (Some r) → Finds s (turned_by lot xs) (Some r)
+    turned_sooner later r is h = (subst (λ (ys : List (Step A)). Chooses s (ys ++ take (lot % length xs) xs) (Some r.step)) is (chooses_sooner later (take (lot % length xs) xs) r.step h.0), h.1)
+
+    pub turned_later : (later earlier : List (Step A)) (found : Option (Record A)) → later ≡ drop (lot % length xs) xs → earlier ≡ take (lot % length xs) xs
+        → Finds {A = A} s later None → Finds s earlier found → Finds s (turned_by lot xs) found
+    turned_later later earlier found is also none h =
+        let choice : Option (Step A) = option_map (λ (r : Record A). r.step) found in
+        (subst (λ (ys : List (Step A)). Chooses s (drop (lot % length xs) xs ++ ys) choice) also (subst (λ (ys : List (Step A)). Chooses s (ys ++ earlier) choice) is (chooses_later later earlier choice none.0 h.0)), h.1)

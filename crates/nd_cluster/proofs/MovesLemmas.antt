@@ -1,5 +1,5 @@
 -- The records of the enabled ones of some steps, step by step.
-use Rattle.std.proofs.Common.{◌≡◌, inl, inr, List, [], ◌∷◌, ◌++◌, map, Some, None, refl, sym, ap, subst, ◌∙◌, append_assoc}
+use Rattle.std.proofs.Common.{◌≡◌, inl, inr, Bool, true, false, cond, List, [], ◌∷◌, ◌++◌, map, Some, None, refl, sym, ap, subst, ◌∙◌, append_assoc}
 use Rattle.std.proofs.lemmas.List.{append-nil, map-append}
 use Rattle.std.proofs.lemmas.List.Elements.{All-nil, All-cons, All-append}
 use Rattle.nd_protocol.specs.State.{ClusterState}
@@ -56,3 +56,10 @@ module _ {A : Type 0} (s : ClusterState) where
   -- all that is added to an empty list
   pub all_planned : (all : List (Step A)) (new : List (Record A)) → AddsPlanned s all [] new → ArePlanned s all new
   all_planned all new h = subst (ArePlanned s all) (sym h.1.1) h.1.0
+
+  -- steps that are tried if a test is true
+  pub adds_unless : (b : Bool) (xs : List (Step A)) (old : List (Record A)) → b ≡ false → AddsPlanned s (cond b xs []) old old
+  adds_unless b xs old no = subst (λ c. AddsPlanned s (cond c xs []) old old) (sym no) (adds_none old)
+
+  pub adds_if : (b : Bool) (xs : List (Step A)) (old new : List (Record A)) → b ≡ true → AddsPlanned s xs old new → AddsPlanned s (cond b xs []) old new
+  adds_if b xs old new yes h = subst (λ c. AddsPlanned s (cond c xs []) old new) (sym yes) h

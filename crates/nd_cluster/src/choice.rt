@@ -157,11 +157,10 @@ impl<A: Allocator + Copy> Cluster<A> {
     fn tried_copy(&self, step: &Step<A>) -> Result<Option<Record<A>>, NoMemory>
         ensures { IfOk result (Tries self.now step.now) }
     {
-        match self.plan(step) {
-            Ok(record) => Ok(Some(record)),
-            Err(Refusal::Memory) => Err(NoMemory),
-            Err(_) => Ok(None),
-        }
+        let Ok(step) = step.copy(self.alloc) else {
+            return Err(NoMemory);
+        };
+        self.tried(step)
     }
 
     // Returns the record of the first of some steps that is enabled.

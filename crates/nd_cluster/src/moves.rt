@@ -27,11 +27,12 @@ impl<A: Allocator + Copy> Cluster<A> {
     fn add_move(&self, moves: &mut Moves<A>, step: Step<A>) -> Result<(), NoMemory>
         ensures { OnOk result (AddsPlanned self.now (step ∷ []) moves.old.items moves.new.items) }
     {
-        if let Some(record) = self.tried(step)? {
-            let Ok(()) = moves.push(record) else {
-                return Err(NoMemory);
-            };
-        }
+        let Some(record) = self.tried(step)? else {
+            return Ok(());
+        };
+        let Ok(()) = moves.push(record) else {
+            return Err(NoMemory);
+        };
         Ok(())
     }
 
