@@ -1,9 +1,8 @@
 -- The choice among a list of steps.
-use Rattle.std.proofs.Common.{◌≡◌, ◌-◌, ◌%◌, ◌++◌, inl, inr, ℕ, zero, suc, List, [], ◌∷◌, length, take, drop, Option, Some, None, refl, sym, ap, subst, ◌∙◌, arith}
+use Rattle.std.proofs.Common.{◌≡◌, ◌-◌, ◌%◌, ◌++◌, inl, inr, ℕ, List, [], ◌∷◌, length, take, drop, Option, Some, None, refl, sym, ap, subst, ◌∙◌, arith}
 use Rattle.std.specs.Prelude.{◌↔◌, Contains, IsNone, option_map}
 use Rattle.std.specs.List.{range_with_len}
-use Rattle.std.proofs.Math.Seq.{drop-nil}
-use Rattle.std.proofs.lemmas.List.{take-append-drop, nil_from_length}
+use Rattle.std.proofs.lemmas.List.{take-append-drop}
 use Rattle.std.proofs.lemmas.List.Concat.{flat_map-append}
 use Rattle.std.proofs.lemmas.List.Elements.{All-nil, All-cons, All-append, All-take, All-drop, All-weaker, All-contains, Contains-append_left, Contains-append_right, Contains-append_cases, Contains-push}
 use Rattle.nd_protocol.specs.State.{ClusterState}
@@ -83,13 +82,6 @@ module _ {A : Type 0} (s : ClusterState) where
   }
 
   module _ (lot : ℕ) (xs : List (Step A)) where
-    pub turned_none : length xs ≡ 0 → Finds {A = A} s (turned_by lot xs) None
-    turned_none none = subst (λ (ys : List (Step A)). Finds {A = A} s (turned_by lot ys) None) (sym (nil_from_length xs none)) (subst (λ (ys : List (Step A)). Chooses s (ys ++ take (lot % 0) []) None) (sym (drop-nil (lot % 0))) (nothing (lot % 0)), tt)
-      where
-        nothing : (n : ℕ) → Chooses {A = A} s (take n []) None
-        nothing zero = refl
-        nothing (suc n) = refl
-
     pub turned_sooner : (later : List (Step A)) (r : Record A) → later ≡ drop (lot % length xs) xs → Finds s later (Some r) → Finds s (turned_by lot xs) (Some r)
     turned_sooner later r is h = (subst (λ (ys : List (Step A)). Chooses s (ys ++ take (lot % length xs) xs) (Some r.step)) is (chooses_sooner later (take (lot % length xs) xs) r.step h.0), h.1)
 

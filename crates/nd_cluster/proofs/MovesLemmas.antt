@@ -15,7 +15,7 @@ module _ {A : Type 0} (s : ClusterState) where
   enabled_both : (xs ys es fs : List (Step A)) → AreTheEnabled s xs es → AreTheEnabled s ys fs → AreTheEnabled s (xs ++ ys) (es ++ fs)
   enabled_both [] ys es fs h k = subst (λ (zs : List (Step A)). AreTheEnabled s ys (zs ++ fs)) (sym h) k
   enabled_both (x ∷ xs) ys es fs (inl h) k =
-      inl (h.0, (h.1.0 ++ fs, enabled_both xs ys h.1.0 fs h.1.1.0 k, ap (λ (zs : List (Step A)). zs ++ fs) h.1.1.1))
+      inl (h.0, (h.1.0 ++ fs, enabled_both xs ys h.1.0 fs h.1.1 k, ap (λ (zs : List (Step A)). zs ++ fs) h.1.2))
   enabled_both (x ∷ xs) ys es fs (inr h) k = inr (h.0, enabled_both xs ys es fs h.1 k)
 
   steps_of : List (Record A) → List (Step A)
@@ -29,13 +29,13 @@ module _ {A : Type 0} (s : ClusterState) where
   pub adds_both : (old mid new : List (Record A)) (xs ys : List (Step A)) → AddsPlanned s xs old mid → AddsPlanned s ys mid new → AddsPlanned s (xs ++ ys) old new
   unfolding steps_of
   adds_both old mid new xs ys h k =
-      let both : AreTheEnabled s (xs ++ ys) (steps_of h.0 ++ steps_of k.0) = enabled_both xs ys (steps_of h.0) (steps_of k.0) h.1.0.steps k.1.0.steps in (
+      let both : AreTheEnabled s (xs ++ ys) (steps_of h.0 ++ steps_of k.0) = enabled_both xs ys (steps_of h.0) (steps_of k.0) h.1.steps k.1.steps in (
         h.0 ++ k.0,
         record {
           steps = subst (AreTheEnabled s (xs ++ ys)) (sym (map-append (λ (r : Record A). r.step) h.0 k.0)) both;
-          each = All-append (λ (r : Record A). IsPlanned r s) h.0 k.0 h.1.0.each k.1.0.each;
+          each = All-append (λ (r : Record A). IsPlanned r s) h.0 k.0 h.1.each k.1.each;
         },
-        k.1.1 ∙ ap (λ (rs : List (Record A)). rs ++ k.0) h.1.1 ∙ append_assoc old h.0 k.0,
+        k.2 ∙ ap (λ (rs : List (Record A)). rs ++ k.0) h.2 ∙ append_assoc old h.0 k.0,
       )
 
   -- a step is enabled
@@ -43,8 +43,8 @@ module _ {A : Type 0} (s : ClusterState) where
   adds_one x r old new h is = (
     r ∷ [],
     record {
-      steps = inl (h.0, ([], refl, ap (λ (y : Step A). y ∷ []) h.1.0));
-      each = All-cons (λ (r : Record A). IsPlanned r s) r [] h.1.1 (All-nil (λ (r : Record A). IsPlanned r s));
+      steps = inl (h.0, ([], refl, ap (λ (y : Step A). y ∷ []) h.1));
+      each = All-cons (λ (r : Record A). IsPlanned r s) r [] h.2 (All-nil (λ (r : Record A). IsPlanned r s));
     },
     is,
   )
@@ -55,11 +55,11 @@ module _ {A : Type 0} (s : ClusterState) where
 
   -- all that is added to an empty list
   pub all_planned : (all : List (Step A)) (new : List (Record A)) → AddsPlanned s all [] new → ArePlanned s all new
-  all_planned all new h = subst (ArePlanned s all) (sym h.1.1) h.1.0
+  all_planned all new h = subst (ArePlanned s all) (sym h.2) h.1
 
   -- steps that are tried if a test is true
   pub adds_unless : (b : Bool) (xs : List (Step A)) (old : List (Record A)) → b ≡ false → AddsPlanned s (cond b xs []) old old
-  adds_unless b xs old no = subst (λ c. AddsPlanned s (cond c xs []) old old) (sym no) (adds_none old)
+  adds_unless b xs old off = subst (λ c. AddsPlanned s (cond c xs []) old old) (sym off) (adds_none old)
 
   pub adds_if : (b : Bool) (xs : List (Step A)) (old new : List (Record A)) → b ≡ true → AddsPlanned s xs old new → AddsPlanned s (cond b xs []) old new
-  adds_if b xs old new yes h = subst (λ c. AddsPlanned s (cond c xs []) old new) (sym yes) h
+  adds_if b xs old new on h = subst (λ c. AddsPlanned s (cond c xs []) old new) (sym on) h

@@ -32,8 +32,8 @@ loop-p-preserved g c =
       end = c.loop-p.invariant.end;
     }
 
-pub returns-then-not-feeds : goal.returns-then-not-feeds
-returns-then-not-feeds g c = adds_unless c.args.self.now c.args.allowed.feeds (feeds c.args.self.now) c.args.moves.now.items c.if-not-feeds.true
+pub returns-then-not-allowed : goal.returns-then-not-allowed
+returns-then-not-allowed g c = adds_unless c.args.self.now c.args.allowed.feeds (feeds c.args.self.now) c.args.moves.now.items c.if-not-allowed.true
 
 pub returns : goal.returns
 returns g c =
@@ -41,5 +41,5 @@ returns g c =
     let end = c.processor_count-p-end.result in
     let all : end ≤ c.loop-p.p = omega (arith, c.loop-p-test.false) in
     let here : List (Record g.row.A.Denot) = c.loop-p.moves.items in
-    adds_if s c.args.allowed.feeds (feeds s) c.args.moves.now.items here c.if-not-feeds.false
+    adds_if s c.args.allowed.feeds (feeds s) c.args.moves.now.items here c.if-not-allowed.false
     (c.loop-p.invariant.adds here (subst (λ (xs : List (Step g.row.A.Denot)). AddsPlanned s xs here here) (sym (none_left (feeds_of s) c.loop-p.p end all)) (adds_none s here)))

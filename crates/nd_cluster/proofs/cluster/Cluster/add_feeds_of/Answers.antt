@@ -12,18 +12,18 @@ use Rattle.nd_cluster.proofs.cluster.Cluster.add_feeds_of.Goals as goal
 pub loop-vertex-init : goal.loop-vertex-init
 loop-vertex-init g c =
     let s = c.args.self.now in
-    let end = c.len-vertex-end.result in
-    let all : end - 0 ≡ length s.graph.vertices = omega (arith, (ap length c.vertices.ensures.vertices ∙ ap (λ (d : Dataflow). length d.vertices) c.graph.ensures)) in
+    let end = (length c.vertices-vertex-end.result.now) in
+    let all : end - 0 ≡ length s.graph.vertices = omega (arith, (ap length c.vertices-vertex-end.ensures.vertices ∙ ap (λ (d : Dataflow). length d.vertices) c.graph.ensures)) in
     record {
       adds = λ new rest. subst (λ n. AddsPlanned {A = g.row.A.Denot} s (flat_map (feeds_at s c.args.p) (range_with_len 0 n)) c.args.moves.now.items new) all rest;
-      end = (ap length c.vertices.ensures.vertices ∙ ap (λ (d : Dataflow). length d.vertices) c.graph.ensures);
+      end = (ap length c.vertices-vertex-end.ensures.vertices ∙ ap (λ (d : Dataflow). length d.vertices) c.graph.ensures);
     }
 
 pub loop-vertex-preserved : goal.loop-vertex-preserved
 loop-vertex-preserved g c =
     let s = c.args.self.now in
     let k = c.loop-vertex.vertex in
-    let end = c.len-vertex-end.result in
+    let end = (length c.vertices-vertex-end.result.now) in
     let more : k < end = omega (arith, c.loop-vertex-test.true) in
     let here : List (Record g.row.A.Denot) = c.loop-vertex.moves.items in
     let rest : List (Step g.row.A.Denot) = flat_map (feeds_at s c.args.p) (range_with_len (k + 1) (end - (k + 1))) in
@@ -37,7 +37,7 @@ loop-vertex-preserved g c =
 pub returns : goal.returns
 returns g c =
     let s = c.args.self.now in
-    let end = c.len-vertex-end.result in
+    let end = (length c.vertices-vertex-end.result.now) in
     let all : end ≤ c.loop-vertex.vertex = omega (arith, c.loop-vertex-test.false) in
     let here : List (Record g.row.A.Denot) = c.loop-vertex.moves.items in
     c.loop-vertex.invariant.adds here (subst (λ (xs : List (Step g.row.A.Denot)). AddsPlanned s xs here here) (sym (none_left (feeds_at s c.args.p) c.loop-vertex.vertex end all)) (adds_none s here))

@@ -7,16 +7,6 @@ use Rattle.nd_cluster.specs.Candidates.{AreComplete, candidates_among, candidate
 use Rattle.nd_cluster.proofs.CandidatesLemmas.{complete_among, next_of, none_left}
 use Rattle.nd_cluster.proofs.cluster.Cluster.all_candidates.Goals as goal
 
-pub loop-p-init : goal.loop-p-init
-loop-p-init g c =
-    let s = c.args.self.now in
-    let end = c.processor_count-p-end.result in
-    let all : end - 0 ≡ length s.processors = omega (arith, c.processor_count-p-end.ensures.value) in
-    record {
-      steps = ap (λ n. candidates_on {A = g.row.A.Denot} s (option_copied c.args.only) (range_with_len 0 n)) all;
-      end = c.processor_count-p-end.ensures.value;
-    }
-
 pub loop-p-preserved : goal.loop-p-preserved
 loop-p-preserved g c =
     let s = c.args.self.now in
