@@ -1,5 +1,5 @@
 -- The records of the enabled ones of some steps, step by step.
-use Rattle.std.proofs.Common.{◌≡◌, inl, inr, Bool, true, false, cond, List, [], ◌∷◌, ◌++◌, map, Some, None, refl, sym, ap, subst, ◌∙◌, append_assoc}
+use Rattle.std.proofs.Common.{◌≡◌, inl, inr, Bool, true, false, not, cond, List, [], ◌∷◌, ◌++◌, map, Some, None, refl, sym, ap, subst, ◌∙◌, append_assoc}
 use Rattle.std.proofs.lemmas.List.{append-nil, map-append}
 use Rattle.std.proofs.lemmas.List.Elements.{All-nil, All-cons, All-append}
 use Rattle.nd_protocol.specs.State.{ClusterState}
@@ -9,6 +9,18 @@ use Rattle.nd_steps.specs.declared.record.Record.{Record}
 use Rattle.nd_cluster.specs.Records.{IsPlanned}
 use Rattle.nd_cluster.specs.Choice.{Tries}
 use Rattle.nd_cluster.specs.Moves.{AreTheEnabled, ArePlanned, AddsPlanned}
+
+-- ---- tests
+
+pub is_off : (b : Bool) → not b ≡ true → b ≡ false
+is_off true h = absurd (cc (h))
+is_off false h = refl
+
+pub is_on : (b : Bool) → not b ≡ false → b ≡ true
+is_on true h = refl
+is_on false h = absurd (cc (h))
+
+-- ---- records
 
 module _ {A : Type 0} (s : ClusterState) where
   -- the enabled ones of two lists, one after the other

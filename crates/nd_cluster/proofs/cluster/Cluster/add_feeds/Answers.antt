@@ -4,7 +4,7 @@ use Rattle.nd_protocol.specs.declared.step.Step.{Step}
 use Rattle.nd_steps.specs.declared.record.Record.{Record}
 use Rattle.nd_cluster.specs.Moves.{AddsPlanned, feeds, feeds_of}
 use Rattle.nd_cluster.proofs.CandidatesLemmas.{next_of, none_left}
-use Rattle.nd_cluster.proofs.MovesLemmas.{adds_none, adds_both, adds_if, adds_unless}
+use Rattle.nd_cluster.proofs.MovesLemmas.{is_off, is_on, adds_none, adds_both, adds_if, adds_unless}
 use Rattle.nd_cluster.proofs.cluster.Cluster.add_feeds.Goals as goal
 
 pub loop-p-init : goal.loop-p-init
@@ -33,7 +33,7 @@ loop-p-preserved g c =
     }
 
 pub returns-then-not-allowed : goal.returns-then-not-allowed
-returns-then-not-allowed g c = adds_unless c.args.self.now c.args.allowed.feeds (feeds c.args.self.now) c.args.moves.now.items c.if-not-allowed.true
+returns-then-not-allowed g c = adds_unless c.args.self.now c.args.allowed.feeds (feeds c.args.self.now) c.args.moves.now.items (is_off c.args.allowed.feeds c.if-not-allowed.true)
 
 pub returns : goal.returns
 returns g c =
@@ -41,5 +41,5 @@ returns g c =
     let end = c.processor_count-p-end.result in
     let all : end ≤ c.loop-p.p = omega (arith, c.loop-p-test.false) in
     let here : List (Record g.row.A.Denot) = c.loop-p.moves.items in
-    adds_if s c.args.allowed.feeds (feeds s) c.args.moves.now.items here c.if-not-allowed.false
+    adds_if s c.args.allowed.feeds (feeds s) c.args.moves.now.items here (is_on c.args.allowed.feeds c.if-not-allowed.false)
     (c.loop-p.invariant.adds here (subst (λ (xs : List (Step g.row.A.Denot)). AddsPlanned s xs here here) (sym (none_left (feeds_of s) c.loop-p.p end all)) (adds_none s here)))

@@ -1,4 +1,5 @@
-use Rattle.std.proofs.Common.{◌≡◌, ◌≤◌, ◌<◌, ◌%◌, ◌-◌, List, None, length, drop, take, length-take, refl, subst, arith, rules}
+use Rattle.std.proofs.Common.{◌≡◌, ℕ, ◌≤◌, ◌<◌, ◌%◌, ◌-◌, List, None, length, drop, take, length-take, eqb, false, sym, ◌∙◌, refl, subst, arith}
+use Rattle.std.proofs.lemmas.Bool.Decides.{nat_tests}
 use Rattle.std.proofs.lemmas.Nat.{mod_below}
 use Rattle.std.proofs.lemmas.Slice.{between_to_end}
 use Rattle.std.proofs.lemmas.Result.{IfOk-weaker}
@@ -7,10 +8,13 @@ use Rattle.nd_cluster.specs.Choice.{Finds, turned_by}
 use Rattle.nd_cluster.proofs.ChoiceLemmas.{turned_sooner, turned_later}
 use Rattle.nd_cluster.proofs.cluster.Cluster.first_by_lot.Goals as goal
 
+positive : (n : ℕ) → eqb n 0 ≡ false → 0 < n
+positive n h = grind (arith, nat_tests)
+
 pub slice_bounds-first_of-end-in-None : goal.slice_bounds-first_of-end-in-None
 slice_bounds-first_of-end-in-None g c =
     let xs : List (Step g.row.A.Denot) = c.args.steps.now in
-    let some : 0 < length xs = search rules in
+    let some : 0 < length xs = positive (length xs) (sym c.is_empty.ensures ∙ c.if-is_empty.false) in
     let within : c.args.lot % length xs < length xs = mod_below c.args.lot (length xs) some in
     omega (arith, within, length-take (c.args.lot % length xs) xs)
 
