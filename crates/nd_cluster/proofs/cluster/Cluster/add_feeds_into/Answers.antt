@@ -16,5 +16,5 @@ returns g c =
     let to_close : Step g.row.A.Denot = c.feed_of_nothing-2.result in
     on_ok_weaker c.add_move-2.result
     (λ (later : AddsPlanned s (to_close ∷ []) mid new). subst (λ (xs : List (Step g.row.A.Denot)). AddsPlanned s xs old new) (λ i. c.feed_of_nothing.ensures i ∷ c.feed_of_nothing-2.ensures i ∷ [])
-        (adds_both s old mid new (to_next ∷ []) (to_close ∷ []) c.in_ok-add_move.ensures later))
+    (adds_both s old mid new (to_next ∷ []) (to_close ∷ []) c.in_ok-add_move.ensures later))
     c.add_move-2.ensures

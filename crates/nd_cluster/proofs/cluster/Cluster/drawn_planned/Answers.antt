@@ -34,5 +34,5 @@ returns-clause-none g c =
     let all : List (Step g.row.A.Denot) = candidates_among s only in
     IfOk-weaker c.first_by_lot.result (Finds s (turned_by c.args.lot steps)) (λ found. IsNone found ↔ AreRefused {A = g.row.A.Denot} s all)
     (λ found h.
-        none_exactly s only (turned_by c.args.lot all) all found (complete_turned s only (c.args.lot % length all) all (complete_among s only)) (complete_among s only)
-        (subst (λ (xs : List (Step g.row.A.Denot)). Finds s (turned_by c.args.lot xs) found) same h)) c.first_by_lot.ensures
+    none_exactly s only (turned_by c.args.lot all) all found (complete_turned s only (c.args.lot % length all) all (complete_among s only)) (complete_among s only)
+    (subst (λ (xs : List (Step g.row.A.Denot)). Finds s (turned_by c.args.lot xs) found) same h)) c.first_by_lot.ensures
