@@ -1,10 +1,9 @@
-use Rattle.std.proofs.Common.{◌≡◌, ◌<◌, ◌≤◌, ◌+◌, ◌-◌, length, List, None, sym, ap, subst, ◌∙◌, arith}
+use Rattle.std.proofs.Common.{◌≡◌, ◌<◌, ◌≤◌, ◌+◌, ◌-◌, length, List, sym, ap, subst, ◌∙◌, arith}
 use Rattle.std.specs.List.{flat_map, range_with_len}
 use Rattle.nd_protocol.specs.declared.step.Step.{Step}
 use Rattle.nd_steps.specs.declared.record.Record.{Record}
 use Rattle.nd_graph.specs.Graph.{Dataflow}
-use Rattle.nd_graph.specs.declared.graph.Vertex.{Vertex}
-use Rattle.nd_cluster.specs.Moves.{AddsPlanned, feeds_at, feeds_of}
+use Rattle.nd_cluster.specs.Moves.{AddsPlanned, feeds_at}
 use Rattle.nd_cluster.proofs.CandidatesLemmas.{next_of, none_left}
 use Rattle.nd_cluster.proofs.MovesLemmas.{adds_none, adds_both}
 use Rattle.nd_cluster.proofs.cluster.Cluster.add_feeds_of.Goals as goal

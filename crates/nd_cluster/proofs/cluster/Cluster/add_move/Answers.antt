@@ -1,4 +1,4 @@
-use Rattle.std.proofs.Common.{Some, None, subst}
+use Rattle.std.proofs.Common.{subst}
 use Rattle.nd_cluster.specs.Choice.{Tries}
 use Rattle.nd_cluster.proofs.MovesLemmas.{adds_one, adds_refused}
 use Rattle.nd_cluster.proofs.cluster.Cluster.add_move.Goals as goal

@@ -6,7 +6,6 @@ use Rattle.std.proofs.lemmas.Map.Iter.{rest_more}
 use Rattle.nd_paths.specs.declared.point.Pointstamp.{Pointstamp}
 use Rattle.nd_processor.specs.State.{ProcessorState}
 use Rattle.nd_protocol.specs.State.{processor}
-use Rattle.nd_protocol.specs.declared.step.Step.{Step}
 use Rattle.nd_steps.specs.declared.record.Record.{Record}
 use Rattle.nd_cluster.specs.Moves.{AddsPlanned, releases_at}
 use Rattle.nd_cluster.proofs.MovesLemmas.{adds_none, adds_both}

@@ -1,4 +1,4 @@
-use Rattle.std.proofs.Common.{◌≡◌, ◌%◌, ◌∙◌, List, length, IfSome, subst, sym}
+use Rattle.std.proofs.Common.{◌≡◌, ◌%◌, ◌∙◌, List, length, IfSome, subst}
 use Rattle.std.specs.Prelude.{◌↔◌, IsNone, option_copied, option_map}
 use Rattle.std.proofs.lemmas.Result.{IfOk-weaker}
 use Rattle.nd_protocol.specs.declared.step.Step.{Step}
