@@ -5,7 +5,7 @@ use Rattle.nd_protocol.specs.Enabled.{IsEnabled}
 use Rattle.nd_protocol.specs.declared.step.Step.{Step}
 use Rattle.nd_cluster.specs.Choice.{Chooses, candidates_from, candidates_by}
 use Rattle.nd_breaks.specs.Breaks.{BreakMap, NoHit}
-use Rattle.nd_timeline.specs.Timeline.{TimelineValue, cluster_of, extended}
+use Rattle.nd_timeline.specs.Timeline.{TimelineValue, cluster_of}
 use Rattle.nd_timeline.specs.Seeds.{mix, tried}
 use Rattle.nd_timeline.specs.Moves.{HasRun, Goes}
 

@@ -1,4 +1,4 @@
-use Rattle.std.proofs.Common.{ℕ, Option, IfOk, IfSome, subst}
+use Rattle.std.proofs.Common.{Option, IfOk, IfSome, subst}
 use Rattle.std.specs.Prelude.{◌↔◌, IsNone, option_copied, option_map}
 use Rattle.std.proofs.lemmas.Result.{IfOk-weaker}
 use Rattle.nd_protocol.specs.State.{ClusterState}
