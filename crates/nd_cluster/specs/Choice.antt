@@ -18,7 +18,7 @@ from_turn n turn = range_with_len (turn % n) (n - turn % n) ++ range_with_len 0 
 abbrev pub candidates_from : {A : Type 0} → ClusterState → ℕ → Option (List ℕ) → List (Step A)
 candidates_from s turn only = candidates_on s only (from_turn (length s.processors) turn)
 
--- ---- a place among the candidates
+-- ---- the choice by a lot
 
 -- a list from the place j to its end, and then its items before j
 abbrev pub turned_to : {X : Type 0} → ℕ → List X → List X

@@ -127,10 +127,11 @@ impl<A: Allocator + Copy> Cluster<A> {
         ensures { OnOk result (steps.new.items
             ≡ steps.old.items ++ candidates_if self.now (option_copied only.entry) p) }
     {
-        if may_run(only, p) {
-            for step in self.candidates_of(p) {
-                steps.push(step)?;
-            }
+        if !may_run(only, p) {
+            return Ok(());
+        }
+        for step in self.candidates_of(p) {
+            steps.push(step)?;
         }
         Ok(())
     }
@@ -152,15 +153,23 @@ impl<A: Allocator + Copy> Cluster<A> {
         Ok(steps)
     }
 
+    // Returns the record of a copy of a step, or none if the step is refused.
+    fn tried_copy(&self, step: &Step<A>) -> Result<Option<Record<A>>, NoMemory>
+        ensures { IfOk result (Tries self.now step.now) }
+    {
+        let Ok(step) = step.copy(self.alloc) else {
+            return Err(NoMemory);
+        };
+        self.tried(step)
+    }
+
     // Returns the record of the first of some steps that is enabled.
     fn first_of(&self, steps: &[Step<A>]) -> Result<Option<Record<A>>, NoMemory>
         ensures { IfOk result (Finds {A = A} self.now steps.now) }
     {
         for step in steps {
-            match self.plan(step) {
-                Ok(record) => return Ok(Some(record)),
-                Err(Refusal::Memory) => return Err(NoMemory),
-                Err(_) => {}
+            if let Some(record) = self.tried_copy(step)? {
+                return Ok(Some(record));
             }
         }
         Ok(None)

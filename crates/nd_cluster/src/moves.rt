@@ -1,13 +1,13 @@
 //! The moves of a cluster: what can happen next, and what users may do.
-ghost use Rattle.std.specs.Prelude.{◌≡◌, ◌<◌, ◌∷◌, ◌++◌, [], IfOk, OnOk, length};
+ghost use Rattle.std.specs.Prelude.{◌≡◌, ◌<◌, ◌∷◌, [], IfOk, OnOk, length};
 ghost use Rattle.nd_cluster.specs.Candidates.{candidates, candidates_of};
-ghost use Rattle.nd_cluster.specs.Moves.{AddsPlanned, ArePlanned, feeds, feeds_into, feeds_of, releases, releases_at, releases_of, tries};
+ghost use Rattle.nd_cluster.specs.Moves.{AddsPlanned, ArePlanned, feeds_at, feeds_if, feeds_into, feeds_of, releases_at, releases_if, releases_of, tries};
 ghost use Rattle.nd_protocol.specs.declared.step.Step.TheVariants.{Feed as Feeding};
 
 use crate::{Cluster, Next, NoMemory, Record, Step, Values};
-use nd_graph::Op;
 use nd_paths::Pointstamp;
 use nd_protocol::{BoxedTimes, Times};
+use nd_steps::op_at;
 use std::alloc::Allocator;
 
 /// Which steps of users are among the moves, besides the candidates.
@@ -27,11 +27,12 @@ impl<A: Allocator + Copy> Cluster<A> {
     fn add_move(&self, moves: &mut Moves<A>, step: Step<A>) -> Result<(), NoMemory>
         ensures { OnOk result (AddsPlanned self.now (step ∷ []) moves.old.items moves.new.items) }
     {
-        if let Some(record) = self.tried(step)? {
-            let Ok(()) = moves.push(record) else {
-                return Err(NoMemory);
-            };
-        }
+        let Some(record) = self.tried(step)? else {
+            return Ok(());
+        };
+        let Ok(()) = moves.push(record) else {
+            return Err(NoMemory);
+        };
         Ok(())
     }
 
@@ -79,25 +80,36 @@ impl<A: Allocator + Copy> Cluster<A> {
         self.add_move(moves, self.feed_of_nothing(p, vertex, Next::Close))
     }
 
+    // Adds the records of a processor's enabled feeds of nothing into a vertex; none unless the vertex is an input.
+    fn add_feeds_at(&self, moves: &mut Moves<A>, p: u32, vertex: usize) -> Result<(), NoMemory>
+        ensures { OnOk result (AddsPlanned self.now
+            (feeds_at self.now p vertex) moves.old.items moves.new.items) }
+    {
+        if !op_at(self.graph(), vertex).is_input() {
+            return Ok(());
+        }
+        self.add_feeds_into(moves, p, vertex)
+    }
+
     // Adds the records of a processor's enabled feeds of nothing.
     fn add_feeds_of(&self, moves: &mut Moves<A>, p: u32) -> Result<(), NoMemory>
         ensures { OnOk result (AddsPlanned self.now
             (feeds_of self.now p) moves.old.items moves.new.items) }
     {
-        let vertices = self.graph().vertices();
-        for vertex in 0..vertices.len() {
-            if matches!(vertices[vertex].op, Op::Input) {
-                self.add_feeds_into(moves, p, vertex)?;
-            }
+        for vertex in 0..self.graph().vertices().len() {
+            self.add_feeds_at(moves, p, vertex)?;
         }
         Ok(())
     }
 
-    // Adds the records of all enabled feeds of nothing.
-    fn add_feeds(&self, moves: &mut Moves<A>) -> Result<(), NoMemory>
+    // Adds the records of all enabled feeds of nothing, if feeds are allowed.
+    fn add_feeds(&self, moves: &mut Moves<A>, allowed: Allowed) -> Result<(), NoMemory>
         ensures { OnOk result (AddsPlanned self.now
-            (feeds self.now) moves.old.items moves.new.items) }
+            (feeds_if allowed self.now) moves.old.items moves.new.items) }
     {
+        if !allowed.feeds {
+            return Ok(());
+        }
         for p in 0..self.processor_count() {
             self.add_feeds_of(moves, p)?;
         }
@@ -114,10 +126,7 @@ impl<A: Allocator + Copy> Cluster<A> {
         ensures { OnOk result (AddsPlanned self.now
             (releases_at self.now p point.now) moves.old.items moves.new.items) }
     {
-        let Some(vertex) = self.graph().vertices().get(point.location) else {
-            return Ok(());
-        };
-        if !vertex.op.holds() {
+        if !op_at(self.graph(), point.location).holds() {
             return Ok(());
         }
         let times = Times {
@@ -149,11 +158,14 @@ impl<A: Allocator + Copy> Cluster<A> {
         Ok(())
     }
 
-    // Adds the records of all enabled releases that drop a capability.
-    fn add_releases(&self, moves: &mut Moves<A>) -> Result<(), NoMemory>
+    // Adds the records of all enabled releases that drop a capability, if releases are allowed.
+    fn add_releases(&self, moves: &mut Moves<A>, allowed: Allowed) -> Result<(), NoMemory>
         ensures { OnOk result (AddsPlanned self.now
-            (releases self.now) moves.old.items moves.new.items) }
+            (releases_if allowed self.now) moves.old.items moves.new.items) }
     {
+        if !allowed.releases {
+            return Ok(());
+        }
         for p in 0..self.processor_count() {
             self.add_releases_of(moves, p)?;
         }
@@ -167,12 +179,8 @@ impl<A: Allocator + Copy> Cluster<A> {
     {
         let mut moves = Vec::new(self.alloc);
         self.add_candidates(&mut moves)?;
-        if allowed.feeds {
-            self.add_feeds(&mut moves)?;
-        }
-        if allowed.releases {
-            self.add_releases(&mut moves)?;
-        }
+        self.add_feeds(&mut moves, allowed)?;
+        self.add_releases(&mut moves, allowed)?;
         Ok(moves)
     }
 }

@@ -20,39 +20,7 @@ pub struct Saved<A: Allocator + Copy = Global> {
     pub(crate) mesh: Mesh<A>,
 }
 
-impl<A: Allocator + Copy> Saved<A> {
-    /// Returns what is saved of a cluster with these processors, views and queues.
-    pub fn new(
-        processors: Vec<Processor<A>, A>,
-        views: Vec<View<A>, A>,
-        mesh: Mesh<A>,
-    ) -> Saved<A>
-        ensures processors { result.processors.items ≡ processors.items }
-        ensures views { result.views.items ≡ views.items }
-        ensures mesh { result.mesh ≡ mesh }
-    {
-        Saved {
-            processors,
-            views,
-            mesh,
-        }
-    }
-}
-
 impl<A: Allocator + Copy> Cluster<A> {
-    /// Puts what is `saved` in place of what steps change. The graph stays.
-    pub fn put(&mut self, saved: Saved<A>)
-        requires { FitsIn self.old.graph saved }
-        ensures { self.new ≡ state_in self.old.graph saved }
-    {
-        let Saved {
-            processors,
-            views,
-            mesh,
-        } = saved;
-        self.parts.set(processors, views, mesh);
-    }
-
     /// Returns a copy of what steps change.
     pub fn saved(&self, alloc: A) -> Result<Saved<A>, AllocError>
         ensures { IfOk result (IsSaved self.now) }

@@ -106,21 +106,6 @@ impl<A: Allocator + Copy> Parts<A> {
         })
     }
 
-    /// Puts these processors, views and queues in place of the earlier ones. The views are those of the graph.
-    pub fn set(
-        &mut self,
-        processors: Vec<Processor<A>, A>,
-        views: Vec<View<A>, A>,
-        mesh: Mesh<A>,
-    )
-        requires { All (IsFor self.old.graph) views.items }
-        ensures { self.new ≡ seen self.old.graph processors.items views.items mesh }
-    {
-        self.processors = processors;
-        self.views = views;
-        self.mesh = mesh;
-    }
-
     /// Returns the number of processors.
     pub fn n(&self) -> usize
         ensures { result ≡ length self.now.processors }

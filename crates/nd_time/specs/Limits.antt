@@ -89,10 +89,6 @@ max_input = 268435456
 abbrev pub max_told : ℕ
 max_told = 1000
 
--- the most states that a question for what can still happen looks at
-abbrev pub max_reached : ℕ
-max_reached = 1000000
-
 -- the most literals in one condition
 abbrev pub max_literals : ℕ
 max_literals = 8

@@ -41,10 +41,11 @@ impl<A: Allocator + Copy> Timeline<A> {
             ↔ AreRefused {A = A} (cluster_of self.now)
                 (candidates_among (cluster_of self.now) (option_copied only.entry))) }
     {
+        let cluster = self.cluster();
         let at = self.at();
         match seed {
-            None => self.cluster().first_planned(at, only),
-            Some(seed) => self.cluster().drawn_planned(mix(seed, at), only),
+            None => cluster.first_planned(at, only),
+            Some(seed) => cluster.drawn_planned(mix(seed, at), only),
         }
     }
 

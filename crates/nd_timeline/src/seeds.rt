@@ -3,7 +3,6 @@ ghost use Rattle.std.specs.Prelude.{◌≡◌};
 ghost use Rattle.nd_timeline.specs.Seeds.{mix as mix_of};
 
 // Returns the lot of a seed at a position of the cursor: output `cursor` of SplitMix64 with this seed, counted from 0.
-#[tactic(auto, unfolding(crate::specs::Seeds::mix))]
 pub(crate) fn mix(seed: u64, cursor: u64) -> u64
     ensures { result ≡ mix_of seed cursor }
 {
