@@ -1,5 +1,6 @@
 """Bugs that implementers make, each planted in the worker by a line or a few, so that every run shows it."""
 from graph import Pointstamp
+from operators import OPERATORS, Window
 from worker import Worker
 
 
@@ -13,6 +14,8 @@ class TakenTwice(Worker):
 
 class LocalUnreported(Worker):
     """A record that stays on its worker is not reported when it is sent, but is when it is taken."""
+
+    programs = ["sums", "rounds"]
 
     def send(self, vertex, time, value, port=0):
         super().send(vertex, time, value, port)
@@ -110,14 +113,16 @@ class UpdatesSwapped(Chosen):
 
 
 class WrongWorker(Worker):
-    """An exchange edge leaves each record on the worker that sends it."""
+    """An exchange edge takes each record to the worker after the one it belongs to."""
 
-    def destination(self, edge, value):
-        return self.index
+    def destination(self, edge, key):
+        return super().destination(edge, key + 1)
 
 
 class LateRecord(Worker):
     """The input goes to the next epoch, or is closed, before the last record of the epoch is sent."""
+
+    programs = ["sums", "rounds"]
 
     def feed(self):
         values, then = self.feeds[0]
@@ -149,6 +154,55 @@ class RoundNotCounted(Worker):
         super().send(vertex, (*time[:-1], time[-1] - 1) if is_feedback else time, value, port)
 
 
+class DroppedEarly(Worker):
+    """A window's capability is dropped before its sum is sent."""
+
+    programs = ["windows"]
+
+    class Window(Window):
+        def on_notice(self, capability):
+            capability.drop()
+            capability.send(self.sums.pop(capability.time), key=capability.time[0])
+
+    kinds = {**OPERATORS, "window": Window}
+
+
+class SentEarly(Worker):
+    """A window's sum is sent at the window's first epoch, not at its last."""
+
+    programs = ["windows"]
+
+    class Window(Window):
+        def on_notice(self, capability):
+            first = max(capability.time[0] - 1, 0)
+            capability.send(self.sums.pop(capability.time), key=first, time=(first,))
+            capability.drop()
+
+    kinds = {**OPERATORS, "window": Window}
+
+
+class ReleasedTwice(Worker):
+    """Each capability that is given up is reported twice."""
+
+    programs = ["windows"]
+
+    def let_go(self, vertex, time):
+        super().let_go(vertex, time)
+        self.count(vertex, time, -1)
+
+
+class SumMisreported(Worker):
+    """A window's sum is reported at the window's first epoch, and sent at its last."""
+
+    programs = ["windows"]
+
+    def send(self, vertex, time, value, port=0, dest=None):
+        super().send(vertex, time, value, port, dest)
+        for edge in self.graph.leaving("windows", 0) if vertex == "windows" and time[0] else []:
+            self.count(edge.name, time, -1)
+            self.count(edge.name, (time[0] - 1,), +1)
+
+
 BUGS = {
     "taken-twice": TakenTwice,
     "local-unreported": LocalUnreported,
@@ -164,4 +218,8 @@ BUGS = {
     "late-record": LateRecord,
     "sum-twice": SumTwice,
     "round-not-counted": RoundNotCounted,
+    "dropped-early": DroppedEarly,
+    "sent-early": SentEarly,
+    "released-twice": ReleasedTwice,
+    "sum-misreported": SumMisreported,
 }

@@ -5,10 +5,23 @@ from typing import NamedTuple
 
 
 class Vertex(NamedTuple):
+    """A vertex with a number of `ports` has an operator of the program's own. One that `starts` holds a
+    capability from the start, and is fed in place of an input."""
+
     name: str
     op: str
     depth: int = 0
     k: object = None
+    ports: object = None
+    starts: object = None
+
+    @property
+    def is_own(self):
+        return self.ports is not None
+
+    def as_json(self):
+        named = {**self._asdict(), "op": "opaque" if self.is_own else self.op}
+        return {key: it for key, it in named.items() if it is not None}
 
 
 class Edge(NamedTuple):
@@ -64,9 +77,12 @@ class Graph:
     def __init__(self, vertices, edges):
         self.vertices = {it.name: it for it in vertices}
         self.edges = {it.name: it for it in edges}
-        self.input = next(it.name for it in vertices if it.op == "input")
+        self.input = next(it.name for it in vertices if it.op == "input" or it.starts)
         self.sink = next(it.name for it in vertices if it.op == "sink")
         self.paths = {it: self.paths_from(it) for it in [*self.vertices, *self.edges]}
+
+    def is_own(self, vertex):
+        return self.vertices[vertex].is_own
 
     def leaving(self, vertex, port):
         return [it for it in self.edges.values() if (it.source, it.port) == (vertex, port)]
@@ -105,11 +121,10 @@ class Graph:
 
     def as_json(self):
         """The graph in the form in which a debugger reads it."""
-        vertices, edges = [it._asdict() for it in self.vertices.values()], self.edges.values()
         return {
-            "vertices": [{key: n for key, n in it.items() if n is not None} for it in vertices],
+            "vertices": [it.as_json() for it in self.vertices.values()],
             "edges": [
                 {"name": it.name, "from": it.source, "port": it.port, "to": it.target, "route": it.route}
-                for it in edges
+                for it in self.edges.values()
             ],
         }

@@ -1,7 +1,8 @@
 """The operators: what runs at a vertex, on each worker, when a record or a notification comes.
 
 `send(time, value)` and `notify_at(time)` are the worker's. An operator names the time that it works at; what
-an ingress, an egress or a feedback does to times is the worker's affair."""
+an ingress, an egress or a feedback does to times is the worker's affair. The last two operators get a
+capability (capability.py) in place of the time, and send from it."""
 import collections
 
 
@@ -55,4 +56,40 @@ class Sink(Operator):
         self.counts[value] += 1
 
 
-OPERATORS = {"add": Add, "split": Split, "sum": Sum, "sink": Sink}
+class Source(Operator):
+    """Sends readings, each at the epoch that it belongs to: the source's epoch, or the one after it."""
+
+    def on_start(self, capability):
+        self.capability = capability
+
+    def on_values(self, readings, then):
+        (epoch,) = self.capability.time
+        for value, ahead in readings:
+            self.capability.send(value, key=value // 10, time=(epoch + ahead,))
+        if then == "next":
+            self.capability.downgrade((epoch + 1,))
+        elif then == "close":
+            self.capability.drop()
+
+
+class Window(Operator):
+    """Adds up the values of each window, which is an epoch and the one before it. For each open window it
+    holds a capability at the window's end, to send the sum there when no more values can come."""
+
+    def __init__(self, *given):
+        super().__init__(*given)
+        self.sums = collections.Counter()
+
+    def on_record(self, capability, value):
+        (epoch,) = capability.time
+        for end in ((epoch,), (epoch + 1,)):
+            self.sums[end] += value
+            self.notify_at(capability.delayed(end).time)
+
+    def on_notice(self, capability):
+        (end,) = capability.time
+        capability.send(self.sums.pop(capability.time), key=end)
+        capability.drop()
+
+
+OPERATORS = {"add": Add, "split": Split, "sum": Sum, "sink": Sink, "source": Source, "window": Window}

@@ -1,4 +1,4 @@
-"""Two programs: their graphs, and the values that their inputs get."""
+"""The programs: their graphs, and the values that their inputs get."""
 import random
 
 from graph import Edge, Graph, Vertex
@@ -29,7 +29,21 @@ ROUNDS = Graph(
         Edge("leave", "out"),
     ],
 )
-PROGRAMS = {"sums": (SUMS, range(-9, 100)), "rounds": (ROUNDS, range(1, 9))}
+# Each worker adds up its share of the readings, window by window. A window's sums meet on one worker.
+WINDOWS = Graph(
+    [
+        Vertex("readings", "source", ports=1, starts=True),
+        Vertex("windows", "window", ports=1),
+        Vertex("out", "sink"),
+    ],
+    [Edge("readings", "windows", route="exchange"), Edge("windows", "out", route="exchange")],
+)
+PROGRAMS = {
+    "sums": (SUMS, range(-9, 100)),
+    "rounds": (ROUNDS, range(1, 9)),
+    # each with how many epochs it is ahead of its source
+    "windows": (WINDOWS, [(value, ahead) for value in range(100) for ahead in (0, 0, 1)]),
+}
 
 
 def feeds(values, seed, worker, epochs, records):

@@ -29,6 +29,8 @@ class Trace:
 
     def write(self, do, keys):
         caller = sys._getframe(2)
+        while os.path.basename(caller.f_code.co_filename) == "capability.py":
+            caller = caller.f_back  # to the operator
         note = f"{os.path.basename(caller.f_code.co_filename)}:{caller.f_lineno}"
         self.file.write(json.dumps({"do": do, **keys, "note": note}, separators=(",", ":")) + "\n")
 

@@ -4,6 +4,7 @@ import threading
 import time as clock
 from typing import NamedTuple
 
+from capability import Capability
 from graph import Pointstamp
 from operators import OPERATORS, Operator
 from progress import Progress, Update
@@ -19,19 +20,24 @@ class Worker(threading.Thread):
     """Runs until nothing is left to do. `feeds` has what the input gives: pairs of values and what comes
     after them, "stay", "next" (epoch) or "close". `random` chooses what the worker does next."""
 
+    kinds = OPERATORS
+
     def __init__(self, index, workers, graph, feeds, network, trace, random):
         super().__init__(name=f"worker-{index}")
         self.index, self.workers, self.graph, self.network = index, workers, graph, network
         self.trace, self.random = trace, random
         self.feeds, self.epoch = list(feeds), 0
         self.records, self.requests, self.updates = [], [], [[] for _ in range(workers)]
-        self.progress = Progress(graph, workers)
+        self.held, self.progress = [], Progress(graph, workers)
         self.finished, self.epochs = 0, 1 + sum(then == "next" for _, then in feeds)
         self.operators = {it.name: self.operator(it) for it in graph.vertices.values()}
+        if graph.is_own(graph.input):
+            self.held.append(Pointstamp(graph.input, (0,)))
+            self.operators[graph.input].on_start(self.hold(*self.held[0]))
 
     def operator(self, vertex):
         send, notify_at = (functools.partial(it, vertex.name) for it in (self.send, self.notify_at))
-        return OPERATORS.get(vertex.op, Operator)(vertex, send, notify_at)
+        return self.kinds.get(vertex.op, Operator)(vertex, send, notify_at)
 
     def run(self):
         try:
@@ -67,6 +73,9 @@ class Worker(threading.Thread):
     def feed(self):
         """Gives the input's next values to the dataflow."""
         values, then = self.feeds.pop(0)
+        if self.graph.is_own(self.graph.input):
+            self.operators[self.graph.input].on_values(values, then)
+            return
         self.trace.step("feed", vertex=self.graph.input, values=values, next=then)
         for it in values:
             self.send(self.graph.input, (self.epoch,), it)
@@ -85,32 +94,50 @@ class Worker(threading.Thread):
         self.records.remove(record)
         self.trace.step("take", **record._asdict())
         self.count(record.edge, record.time, -1)
-        self.operators[self.graph.edges[record.edge].target].on_record(record.time, record.value)
+        target = self.graph.edges[record.edge].target
+        self.operators[target].on_record(self.hold(target, record.time), record.value)
 
     def notify(self, request):
         """Delivers a notification."""
         self.trace.belief("why", request, before=True)
         self.requests.remove(request)
-        self.trace.step("notice", vertex=request.location, time=request.time)
-        self.count(*request, -1)
-        self.operators[request.location].on_notice(request.time)
+        if not self.graph.is_own(request.location):
+            self.trace.step("notice", vertex=request.location, time=request.time)
+            self.count(*request, -1)
+        self.operators[request.location].on_notice(self.hold(*request))
 
     def notify_at(self, vertex, time):
         """Asks for a notification, which comes once everything before it is finished."""
         request = Pointstamp(vertex, time)
         if request not in self.requests:
             self.requests.append(request)
-            self.count(*request, +1)
+            if not self.graph.is_own(vertex):
+                self.count(*request, +1)
 
-    def send(self, vertex, time, value, port=0):
-        """Sends a value on each edge that leaves a port: all that leaves a vertex passes here."""
+    def hold(self, vertex, time):
+        """Gives an operator of the program's own a capability; any other gets the time alone."""
+        if not self.graph.is_own(vertex):
+            return time
+        if Pointstamp(vertex, time) not in self.held:
+            self.held.append(Pointstamp(vertex, time))
+            self.count(vertex, time, +1)
+        return Capability(self, vertex, time)
+
+    def let_go(self, vertex, time):
+        """Takes a capability away."""
+        self.held.remove(Pointstamp(vertex, time))
+        self.count(vertex, time, -1)
+
+    def send(self, vertex, time, value, port=0, dest=None):
+        """Sends a value on each edge that leaves a port: all that leaves a vertex passes here. On an
+        exchange edge the value chooses the worker, unless one is given."""
         for edge in self.graph.leaving(vertex, port):
             record = Record(edge.name, self.graph.time_after(vertex, time), value)
             self.count(record.edge, record.time, +1)
-            self.network.send(self.destination(edge, value), record)
+            self.network.send(self.destination(edge, value if dest is None else dest), record)
 
-    def destination(self, edge, value):
-        return value % self.workers if edge.route == "exchange" else self.index
+    def destination(self, edge, key):
+        return key % self.workers if edge.route == "exchange" else self.index
 
     def count(self, location, time, n):
         self.progress.count(Pointstamp(location, time), n)

@@ -417,8 +417,8 @@ class Stops(testing.Case):
         lines = client.body("source", sourceReference=1)["content"].splitlines()[len(FEEDS) : -1]
         self.same("steps", {it.split()[1] for it in lines} if lines else {"1"}, {"1"})
         said = client.stop("continue", threadId=2, singleThread=True)
-        self.same("idle", said, "stopped in 2, idle: nothing is enabled on processor 1: only a feed or a"
-                  " release is left")  # fmt: skip
+        self.same("idle", said, "stopped in 2, idle: nothing is enabled on processor 1: only a feed, a"
+                  " send or a release is left")  # fmt: skip
         self.holds("all", "idle" in client.stop("continue", threadId=2))
 
     def test_goto(self):

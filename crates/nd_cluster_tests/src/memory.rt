@@ -11,8 +11,12 @@ use nd_examples::{
 use nd_testing::{Refusing, in_turn};
 use std::alloc::{Allocator, Global};
 
+/// The graph of an opaque vertex that starts with a capability, and a sink.
+const SOURCE: &str =
+    r#"{"vertices":[{"name":"x","op":"opaque","depth":0,"ports":1,"starts":true},{"name":"z","op":"sink","depth":0}],"edges":[{"name":"xz","from":"x","port":0,"to":"z","route":"exchange"}]}"#;
+
 /// Steps of each kind, with lists that take memory, and states with candidates of each kind.
-static RUNS: [Script; 8] = [
+static RUNS: [Script; 9] = [
     (
         LINE,
         2,
@@ -76,6 +80,27 @@ static RUNS: [Script; 8] = [
             ),
             Told::Points(0, &[("a", &[0]), ("x", &[0])]),
             Told::Keep(0, "x", &[0], &[3]),
+        ],
+    ),
+    (
+        SOURCE,
+        2,
+        &[
+            Told::Send(
+                0,
+                "x",
+                Sent {
+                    time: &[0],
+                    at: None,
+                    port: 0,
+                    values: &[5],
+                    dest: Some(1),
+                },
+            ),
+            Told::Take(1, "xz", &[0], 5),
+            Told::Release(0, "x", &[0], None),
+            Told::All(0),
+            Told::Receive(0, 1),
         ],
     ),
 ];

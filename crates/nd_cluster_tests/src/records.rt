@@ -2,7 +2,7 @@
 //! processors a cluster may have.
 
 use nd_cluster::{Changes, Cluster, Next, Record, StartFault, Step};
-use nd_examples::{ADD, EXCHANGE, LINE, LOOP, SUM, Told, graph_of, reach, step_of};
+use nd_examples::{ADD, EXCHANGE, LINE, LOOP, SUM, Sent, TRACED, Told, graph_of, reach, step_of};
 use std::alloc::Global;
 use std::mem::size_of;
 
@@ -59,11 +59,29 @@ const AROUND: &[Told] = &[
     Told::Take(0, "sf", &[0, 0], 2),
 ];
 
+/// A send of two values, and a release that keeps the capability.
+const FOLLOWED: &[Told] = &[
+    FED,
+    Told::Take(0, "ax", &[0], 2),
+    Told::Send(
+        0,
+        "x",
+        Sent {
+            time: &[0],
+            at: None,
+            port: 0,
+            values: &[1, 2],
+            dest: None,
+        },
+    ),
+    Told::Keep(0, "x", &[0], &[3]),
+];
+
 /// A graph, how many processors there are, steps and how many of them are executed, how many entries the record of
 /// the last of these has, and whether the record keeps a flow in place of a list.
 type Row = (&'static str, u32, &'static [Told], usize, usize, bool);
 
-static ROWS: [Row; 10] = [
+static ROWS: [Row; 12] = [
     (LINE, 1, TWO_FED, 1, 4, false),
     (EXCHANGE, 3, LAG, 4, 2, false),
     (EXCHANGE, 3, LAG, 5, 3, false),
@@ -74,6 +92,8 @@ static ROWS: [Row; 10] = [
     (LOOP, 1, AROUND, 2, 4, true),
     (LOOP, 1, AROUND, 8, 4, true),
     (LOOP, 1, AROUND, 9, 4, true),
+    (TRACED, 1, FOLLOWED, 3, 3, false),
+    (TRACED, 1, FOLLOWED, 4, 2, false),
 ];
 
 /// Returns whether the record of the last step of a row is as the row says.

@@ -56,9 +56,11 @@ static PARTS: [Part; 11] = [
 fn graphs<A: Allocator + Copy>(alloc: A, json: Global) -> Option<()> {
     let value = Value::from_str(json, LOOP).ok()?;
     let draft = GraphDraft::from_value_v4(alloc, &value).ok()?;
-    draft.check(alloc).ok()?;
-    let draft = GraphDraft::from_value(alloc, &value).ok()?;
     draft.check_v1(alloc).ok()?;
+    let draft = GraphDraft::from_value_v5(alloc, &value).ok()?;
+    draft.check_v5(alloc).ok()?;
+    let draft = GraphDraft::from_value(alloc, &value).ok()?;
+    draft.check(alloc).ok()?;
     Some(())
 }
 

@@ -67,7 +67,7 @@ abbrev pub plain : List Refusal
 plain =
     refusal.Memory ∷ refusal.NoProcessor ∷ refusal.NoVertex ∷ refusal.NoEdge ∷ refusal.NotInput ∷ refusal.InputClosed ∷ refusal.TooManyValues ∷ refusal.EpochFull
     ∷ refusal.NoRecord ∷ refusal.NoRequest ∷ refusal.Memory ∷ refusal.CounterFull ∷ refusal.ValueRange ∷ refusal.CountFull ∷ refusal.DeltaFull ∷ refusal.NothingToSend
-    ∷ refusal.Memory ∷ refusal.QueueEmpty ∷ refusal.QueueFull ∷ refusal.Memory ∷ refusal.NotNotified ∷ refusal.NotLater ∷ []
+    ∷ refusal.Memory ∷ refusal.QueueEmpty ∷ refusal.QueueFull ∷ refusal.Memory ∷ refusal.NotNotified ∷ refusal.NotLater ∷ refusal.NoPort ∷ refusal.TooEarly ∷ []
 
 abbrev pub RefusalParts : Type 0
 RefusalParts = ℕ ⊎ (Pointstamp ⊎ Pointstamp)
@@ -77,6 +77,8 @@ refusal_parts (refusal.NotYet blocker) = inr (inl blocker)
 refusal_parts (refusal.NotAdmissible point) = inr (inr point)
 refusal_parts refusal.NotNotified = inl 20
 refusal_parts refusal.NotLater = inl 21
+refusal_parts refusal.NoPort = inl 22
+refusal_parts refusal.TooEarly = inl 23
 refusal_parts r = inl (refusal_number r)
 
 abbrev pub refusal_of : RefusalParts → Refusal
@@ -106,6 +108,8 @@ refusal_back refusal.QueueFull = refl
 refusal_back refusal.Memory = refl
 refusal_back refusal.NotNotified = refl
 refusal_back refusal.NotLater = refl
+refusal_back refusal.NoPort = refl
+refusal_back refusal.TooEarly = refl
 
 abbrev pub refusal_code : Coded Refusal
 refusal_code = code_by RefusalParts (coded⊎ coded_ℕ (coded⊎ point_code point_code)) refusal_parts refusal_of refusal_back

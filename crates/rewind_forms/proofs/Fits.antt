@@ -1,13 +1,13 @@
 -- The graph has what a step that was read names.
 use Rattle.std.proofs.Common.{◌≡◌, ℕ, ◌<◌, ◌≤◌, Bool, true, false, cond, List, [], ◌∷◌, length, refl, sym, ap, subst, Option, Some, None, Result, Ok, Err, codes}
-use Rattle.std.specs.Prelude.{All as Each, IfOk, nat_eq, nat_lt, slice_get, option_map}
+use Rattle.std.specs.Prelude.{All as Each, IfOk, IfSome, nat_eq, nat_lt, slice_get, option_map}
 use Rattle.std.specs.Option.{option_map_or}
 use Rattle.std.specs.declared.alloc.Global.{Global}
 use Rattle.std.proofs.lemmas.Bool.{ltb-true, ltb-false, eqb-true}
 use Rattle.std.proofs.lemmas.List.Elements.{All-nil, All-cons}
 use Rattle.std.proofs.lemmas.Option.{cond_some, option_and_then_some}
 use Rattle.serde_json.specs.Data.{Data}
-use Rattle.nd_json.specs.Forms.{text_at, small_at, integer_at}
+use Rattle.nd_json.specs.Forms.{text_at, small_at, integer_at, boolean_at}
 use Rattle.nd_time.specs.Time.{Time}
 use Rattle.nd_graph.specs.Graph.{Dataflow, depths}
 use Rattle.nd_paths.specs.declared.point.Pointstamp.{Pointstamp}
@@ -15,10 +15,11 @@ use Rattle.nd_protocol.specs.declared.step.Step.{Step}
 use Rattle.nd_graph.specs.Draft.{every}
 use Rattle.rewind_forms.specs.Forms.{given, after, numbers_at, named_at, points_at, values_at}
 use Rattle.rewind_forms.specs.Places.{location_named, vertex_named, edge_named, time_of, placed, are_known, point_named}
-use Rattle.rewind_forms.specs.Steps.{next_at, feed_of, take_of, notice_of, release_of, move_of, broadcast_of, part_of, receive_of, step_of, read_as, read_of}
+use Rattle.rewind_forms.specs.Sends.{numbers_if, small_if, time_if, send_of}
+use Rattle.rewind_forms.specs.Steps.{next_at, feed_of, take_of, notice_of, release_of, move_of, keep_of, broadcast_of, part_of, receive_of, step_of, read_as, read_of}
 use Rattle.rewind_forms.specs.Grammar.{form_of}
 use Rattle.rewind_forms.specs.declared.version.Version.{Version}
-use Rattle.rewind_forms.specs.declared.version.Version.TheVariants.{Fifth}
+use Rattle.rewind_forms.specs.declared.version.Version.TheVariants.{Sixth}
 use Rattle.rewind_forms.specs.declared.form.Form.{Form}
 use Rattle.rewind_forms.specs.declared.form.Form.TheVariants as line
 use Rattle.rewind_forms.specs.declared.form.StepForm.{StepForm}
@@ -150,9 +151,9 @@ release_fits g d =
     if_given _ (named_at (codes "vertex") d) _ (NamesFit g) (λ named _.
     if_placed g (vertex_named g named.0) named.1 _ (NamesFit g) (λ q is. (vertex_is g named.0 q.location is.0, is.1, tt))))
 
-move_fits : (g : Dataflow) (d : Data) → IfOk (move_of g d) (NamesFit g)
+move_fits : (g : Dataflow) (keep : Bool) (d : Data) → IfOk (move_of g keep d) (NamesFit g)
 unfolding move_of
-move_fits g d =
+move_fits g keep d =
     if_given _ (small_at (codes "p") d) _ (NamesFit g) (λ p _.
     if_given _ (named_at (codes "vertex") d) _ (NamesFit g) (λ named _.
     if_given _ (numbers_at (codes "to") d) _ (NamesFit g) (λ later _.
@@ -160,6 +161,34 @@ move_fits g d =
     if_given _ (time_of g vertex named.1) _ (NamesFit g) (λ time at.
     if_given _ (time_of g vertex later) _ (NamesFit g) (λ to after_it.
     (vertex_is g named.0 vertex is, time_is g vertex named.1 time at, time_is g vertex later to after_it)))))))
+
+keep_fits : (g : Dataflow) (d : Data) → IfOk (keep_of g d) (NamesFit g)
+unfolding keep_of
+keep_fits g d = if_given _ (boolean_at (codes "keep") d) _ (NamesFit g) (λ keep _. move_fits g keep d)
+
+made_if : (g : Dataflow) (l : ℕ) (o at : Option Time) → ((t : Time) → o ≡ Some t → HasDepth g l t) → given BadTime o (λ t. Ok (Some t)) ≡ Ok at
+    → IfSome at (HasDepth g l)
+made_if g l None at h e = absurd (cc)
+made_if g l (Some t) at h e = let same : Some t ≡ at = cc in subst (λ o. IfSome o (HasDepth g l)) same (h t refl)
+
+if_time : (g : Dataflow) (l : ℕ) (numbers : Option (List ℕ)) (at : Option Time) → time_if g l numbers ≡ Ok at → IfSome at (HasDepth g l)
+unfolding time_if
+if_time g l None at e = let same : None ≡ at = cc in subst (λ o. IfSome o (HasDepth g l)) same tt
+if_time g l (Some numbers) at e = made_if g l (time_of g l numbers) at (λ t is. time_is g l numbers t is) e
+
+send_fits : (g : Dataflow) (d : Data) → IfOk (send_of g d) (NamesFit g)
+unfolding send_of
+send_fits g d =
+    if_given _ (small_at (codes "p") d) _ (NamesFit g) (λ p _.
+    if_given _ (named_at (codes "vertex") d) _ (NamesFit g) (λ named _.
+    if_given _ (small_at (codes "port") d) _ (NamesFit g) (λ port _.
+    if_given _ (values_at (codes "values") d) _ (NamesFit g) (λ values _.
+    if_after (numbers_if (codes "at") d) _ (NamesFit g) (λ numbers _.
+    if_after (small_if (codes "dest") d) _ (NamesFit g) (λ dest _.
+    if_given _ (vertex_named g named.0) _ (NamesFit g) (λ vertex is.
+    if_given _ (time_of g vertex named.1) _ (NamesFit g) (λ time here.
+    if_after (time_if g vertex numbers) _ (NamesFit g) (λ at there.
+    (vertex_is g named.0 vertex is, time_is g vertex named.1 time here, if_time g vertex numbers at there))))))))))
 
 all_fits : (g : Dataflow) (d : Data) → IfOk (broadcast_of d) (NamesFit g)
 unfolding broadcast_of
@@ -191,7 +220,9 @@ step_fits v g form.Feed d = feed_fits v g d
 step_fits v g form.Take d = take_fits g d
 step_fits v g form.Notice d = notice_fits g d
 step_fits v g form.Release d = release_fits g d
-step_fits v g form.Move d = move_fits g d
+step_fits v g form.Move d = move_fits g false d
+step_fits v g form.Keep d = keep_fits g d
+step_fits v g form.Send d = send_fits g d
 step_fits v g form.Broadcast d = all_fits g d
 step_fits v g form.Part d = part_fits g d
 step_fits v g form.Receive d = receive_fits g d
@@ -201,11 +232,11 @@ pub form_fits : (v : Version) (g : Dataflow) (form : StepForm) (d : Data) (x : S
 form_fits v g form d x e = subst (λ r. IfOk r (NamesFit g)) e (step_fits v g form d)
 
 line_fits : (g : Dataflow) (d : Data) (form : Form) → IfOk (read_as g d form) (NamesFit g)
-line_fits g d (line.Step form) = step_fits Fifth g form d
+line_fits g d (line.Step form) = step_fits Sixth g form d
 line_fits g d (line.Command form) = tt
 line_fits g d (line.Query form) = tt
 
 pub read_fits : (g : Dataflow) (d : Data) (x : Step Global) → read_of g d ≡ Ok x → NamesFit g x
 unfolding read_of
 read_fits g d x e =
-    subst (λ r. IfOk r (NamesFit g)) e (if_given BadShape (form_of Fifth d) (read_as g d) (NamesFit g) (λ form _. line_fits g d form))
+    subst (λ r. IfOk r (NamesFit g)) e (if_given BadShape (form_of Sixth d) (read_as g d) (NamesFit g) (λ form _. line_fits g d form))

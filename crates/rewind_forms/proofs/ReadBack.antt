@@ -1,28 +1,30 @@
 -- Reading the object of a step gives the step.
-use Rattle.std.proofs.Common.{◌≡◌, ℕ, ◌<◌, ◌≤◌, ℤ, true, false, List, [], ◌∷◌, length, map, refl, ap, Option, Some, None, Ok, FitsSigned, w64, codes}
+use Rattle.std.proofs.Common.{◌≡◌, ℕ, ◌<◌, ◌≤◌, ℤ, Bool, true, false, List, [], ◌∷◌, length, map, refl, ap, Option, Some, None, Ok, FitsSigned, w64, codes}
 use Rattle.std.specs.Prelude.{All as Each}
 use Rattle.std.specs.declared.alloc.Global.{Global}
 use Rattle.std.proofs.lemmas.List.Elements.{All-head, All-tail}
-use Rattle.nd_json.specs.Forms.{has_keys, has_text, text}
+use Rattle.nd_json.specs.Forms.{has_keys, has_text, text, boolean_in}
 use Rattle.nd_time.specs.Time.{Time}
 use Rattle.nd_graph.specs.Graph.{Dataflow, names}
 use Rattle.nd_graph.specs.Checked.{has_double}
 use Rattle.nd_paths.specs.declared.point.Pointstamp.{Pointstamp}
 use Rattle.nd_state_json.specs.StateText.{natural, whole, name_at, point_data}
 use Rattle.nd_protocol.specs.declared.step.Step.{Step}
-use Rattle.nd_protocol.specs.declared.step.Step.TheVariants.{Feed, Take, Notice, Release, Broadcast, Receive}
+use Rattle.nd_protocol.specs.declared.step.Step.TheVariants.{Feed, Take, Notice, Release, Send, Broadcast, Receive}
+use Rattle.nd_protocol.specs.declared.times.Later.{Later}
 use Rattle.nd_protocol.specs.declared.part.Part.TheVariants.{All, Points}
 use Rattle.nd_protocol.specs.declared.step.Next.{Next as Afterwards}
 use Rattle.nd_protocol.specs.declared.step.Next.TheVariants as token
 use Rattle.rewind_forms.specs.Forms.{numbers_at, named_at, values_at, points_at, listed_point, alone}
 use Rattle.rewind_forms.specs.Places.{placed, are_known, point_named}
 use Rattle.rewind_forms.specs.Grammar.{steps, form_of}
-use Rattle.rewind_forms.specs.Steps.{epoch_at, next_at, feed_of, take_of, notice_of, release_of, move_of, broadcast_of, part_of, receive_of, read_of}
-use Rattle.rewind_forms.specs.declared.version.Version.TheVariants.{Fifth}
-use Rattle.rewind_forms.specs.Objects.{feed_object, take_object, notice_object, release_object, broadcast_object, receive_object, object_of}
+use Rattle.rewind_forms.specs.Steps.{epoch_at, next_at, feed_of, take_of, notice_of, release_of, move_of, keep_of, broadcast_of, part_of, receive_of, read_of}
+use Rattle.rewind_forms.specs.declared.version.Version.TheVariants.{Sixth}
+use Rattle.rewind_forms.specs.Objects.{feed_object, take_object, notice_object, move_object, release_object, broadcast_object, receive_object, object_of}
 use Rattle.nd_protocol.specs.Ranges.{NumbersFit, IsSmall, NextIsSmall, TimeIsSmall, TimesAreSmall}
 use Rattle.rewind_forms.specs.Fitting.{HasDepth, LaterHasDepth, NamesFit}
 use Rattle.rewind_forms.proofs.NamesLemmas.{vertex-name_at, edge-name_at, time-numbers, known, point-name_at}
+use Rattle.rewind_forms.proofs.SendBack.{sent_back}
 use Rattle.rewind_forms.proofs.Values.{every_as, every_back, list-row, small-natural, integer-whole, integers-whole, numbers-natural, named, point-data}
 
 -- ---- one kind of step after the other
@@ -57,27 +59,43 @@ unfolding release_of placed
 release_back g p vertex t once there depth h k =
     rw (small-natural p h, release_named g p vertex t k, vertex-name_at g vertex once there, time-numbers g vertex t depth) refl
 
-move_named : (g : Dataflow) (p vertex : ℕ) (t to : Time) → TimeIsSmall t
-    → named_at (codes "vertex") (release_object g p vertex t (Some to)) ≡ Some (name_at g vertex, t.epoch ∷ t.counters)
+-- ---- a capability at a later time, the earlier one kept or not
+
+move_named : (g : Dataflow) (p vertex : ℕ) (t to : Time) (keep : Bool) → TimeIsSmall t
+    → named_at (codes "vertex") (move_object g p vertex t to keep) ≡ Some (name_at g vertex, t.epoch ∷ t.counters)
 unfolding named_at numbers_at text
-move_named g p vertex t to h = rw (list-row (map natural (t.epoch ∷ t.counters)), numbers-natural t h) refl
+move_named g p vertex t to true h = rw (list-row (map natural (t.epoch ∷ t.counters)), numbers-natural t h) refl
+move_named g p vertex t to false h = rw (list-row (map natural (t.epoch ∷ t.counters)), numbers-natural t h) refl
 
-later_back : (g : Dataflow) (p vertex : ℕ) (t to : Time) → TimeIsSmall to
-    → numbers_at (codes "to") (release_object g p vertex t (Some to)) ≡ Some (to.epoch ∷ to.counters)
+later_back : (g : Dataflow) (p vertex : ℕ) (t to : Time) (keep : Bool) → TimeIsSmall to
+    → numbers_at (codes "to") (move_object g p vertex t to keep) ≡ Some (to.epoch ∷ to.counters)
 unfolding numbers_at
-later_back g p vertex t to h = rw (list-row (map natural (to.epoch ∷ to.counters)), numbers-natural to h) refl
+later_back g p vertex t to true h = rw (list-row (map natural (to.epoch ∷ to.counters)), numbers-natural to h) refl
+later_back g p vertex t to false h = rw (list-row (map natural (to.epoch ∷ to.counters)), numbers-natural to h) refl
 
-move_back : (g : Dataflow) (p vertex : ℕ) (t to : Time) → has_double (names g) ≡ false → vertex < length g.vertices → HasDepth g vertex t → HasDepth g vertex to
-    → IsSmall p → TimeIsSmall t → TimeIsSmall to → move_of g (release_object g p vertex t (Some to)) ≡ Ok (Release p vertex (record { time = t; to = Some to }))
+-- the release that moves or keeps
+abbrev moving : ℕ → ℕ → Time → Time → Bool → Step Global
+moving p vertex t to keep = Release p vertex (record { time = t; to = Some (record { time = to; keep = keep }) })
+
+move_back : (g : Dataflow) (p vertex : ℕ) (t to : Time) (keep : Bool) → has_double (names g) ≡ false → vertex < length g.vertices → HasDepth g vertex t
+    → HasDepth g vertex to → IsSmall p → TimeIsSmall t → TimeIsSmall to → move_of g keep (move_object g p vertex t to keep) ≡ Ok (moving p vertex t to keep)
 unfolding move_of
-move_back g p vertex t to once there depth later h k j =
-    rw (small-natural p h, move_named g p vertex t to k, later_back g p vertex t to j, vertex-name_at g vertex once there, time-numbers g vertex t depth, time-numbers g vertex to later) refl
+move_back g p vertex t to true once there depth later h k j =
+    rw (small-natural p h, move_named g p vertex t to true k, later_back g p vertex t to true j, vertex-name_at g vertex once there, time-numbers g vertex t depth, time-numbers g vertex to later) refl
+move_back g p vertex t to false once there depth later h k j =
+    rw (small-natural p h, move_named g p vertex t to false k, later_back g p vertex t to false j, vertex-name_at g vertex once there, time-numbers g vertex t depth, time-numbers g vertex to later) refl
 
-released_back : (g : Dataflow) (p vertex : ℕ) (t : Time) (to : Option Time) → has_double (names g) ≡ false → vertex < length g.vertices → HasDepth g vertex t
+moved_back : (g : Dataflow) (p vertex : ℕ) (t to : Time) (keep : Bool) → has_double (names g) ≡ false → vertex < length g.vertices → HasDepth g vertex t
+    → HasDepth g vertex to → IsSmall p → TimeIsSmall t → TimeIsSmall to → read_of g (move_object g p vertex t to keep) ≡ Ok (moving p vertex t to keep)
+unfolding read_of form_of steps has_keys text keep_of boolean_in
+moved_back g p vertex t to true once there depth later h k j = rw (move_back g p vertex t to true once there depth later h k j) refl
+moved_back g p vertex t to false once there depth later h k j = rw (move_back g p vertex t to false once there depth later h k j) refl
+
+released_back : (g : Dataflow) (p vertex : ℕ) (t : Time) (to : Option Later) → has_double (names g) ≡ false → vertex < length g.vertices → HasDepth g vertex t
     → LaterHasDepth g vertex to → IsSmall p → TimesAreSmall t to → read_of g (release_object g p vertex t to) ≡ Ok (Release p vertex (record { time = t; to = to }))
 unfolding read_of form_of steps has_keys text
 released_back g p vertex t None once there depth later h k = rw (release_back g p vertex t once there depth h k) refl
-released_back g p vertex t (Some to) once there depth later h k = rw (move_back g p vertex t to once there depth later h k.0 k.1) refl
+released_back g p vertex t (Some to) once there depth later h k = moved_back g p vertex t to.time to.keep once there depth later h k.0 k.1
 
 take_named : (g : Dataflow) (p edge : ℕ) (t : Time) (value : ℤ) → TimeIsSmall t
     → named_at (codes "edge") (take_object g p edge t value) ≡ Some (name_at g edge, t.epoch ∷ t.counters)
@@ -95,7 +113,7 @@ unfolding epoch_at alone has_keys
 epoch_back g p vertex values n h = small-natural n h
 
 next_back : (g : Dataflow) (p vertex : ℕ) (values : List ℤ) (then : Afterwards) → NextIsSmall then
-    → next_at Fifth (feed_object g p vertex values then) ≡ Some then
+    → next_at Sixth (feed_object g p vertex values then) ≡ Some then
 unfolding next_at has_text text
 next_back g p vertex values token.Next h = refl
 next_back g p vertex values token.Close h = refl
@@ -108,7 +126,7 @@ unfolding values_at
 values_back g p vertex values then h = rw (list-row (map whole values), integers-whole values h) refl
 
 feed_back : (g : Dataflow) (p vertex : ℕ) (values : List ℤ) (then : Afterwards) → has_double (names g) ≡ false → vertex < length g.vertices
-    → IsSmall p → Each (FitsSigned w64) values → NextIsSmall then → feed_of Fifth g (feed_object g p vertex values then) ≡ Ok (Feed p vertex values then)
+    → IsSmall p → Each (FitsSigned w64) values → NextIsSmall then → feed_of Sixth g (feed_object g p vertex values then) ≡ Ok (Feed p vertex values then)
 unfolding feed_of text
 feed_back g p vertex values then once there h k j =
     rw (small-natural p h, values_back g p vertex values then k, next_back g p vertex values then j, vertex-name_at g vertex once there) refl
@@ -143,6 +161,7 @@ read_back g (Feed p vertex values then) once there fits = rw (feed_back g p vert
 read_back g (Take p edge t value) once there fits = rw (take_back g p edge t value once there.0 there.1 fits.0 fits.1 fits.2) refl
 read_back g (Notice p vertex t) once there fits = rw (notice_back g p vertex t once there.0 there.1 fits.0 fits.1) refl
 read_back g (Release p vertex times) once there fits = released_back g p vertex times.time times.to once there.0 there.1 there.2 fits.0 fits.1
+read_back g (Send p vertex batch) once there fits = sent_back g p vertex batch once there fits.0 fits.1
 read_back g (Broadcast p All) once there fits = rw (all_back g p fits.0) refl
 read_back g (Broadcast p (Points points)) once there fits = rw (part_back g p points once there fits.0 fits.1) refl
 read_back g (Receive from to) once there fits = rw (receive_back from to fits.0 fits.1) refl

@@ -110,7 +110,7 @@ class Moving:
 
     def idle_words(self, line):
         alone = f" on processor {line['only'][0]}" if "only" in line else ""
-        return f"nothing is enabled{alone}: only a feed or a release is left"
+        return f"nothing is enabled{alone}: only a feed, a send or a release is left"
 
     def back(self):
         self.command({"do": "back"})

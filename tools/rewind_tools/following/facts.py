@@ -63,8 +63,6 @@ def nothing_to_send(words, line, value, reply):
 def not_admissible(words, line, value, reply):
     """Which negative entries of the part supported the point that is left out."""
     said = inadmissible(words.teller, value, reply, words.state)
-    if words.program.version > 5:
-        said += ", nor a capability that it holds at an opaque vertex"
     part = value.get("part")
     unsent = words.state["processors"][value["p"]]["unsent"]
     sent = [it for it in unsent if it[2] < 0 and (part is None or it[:2] in part)]

@@ -6,7 +6,8 @@ use crate::timelines::run_all;
 use nd_breaks::{Atom, Breaks};
 use nd_cluster::Next;
 use nd_examples::{
-    EXCHANGE, HELD_MOVED, LINE, SUM_NOTIFIED, Script, Told, point, processors_of, start, step_of,
+    EXCHANGE, HELD_MOVED, LINE, SUM_NOTIFIED, Script, Sent, TRACED, Told, point, processors_of,
+    start, step_of,
 };
 use nd_history::{Snapshot, changes, effect, turns};
 use nd_testing::{Refusing, in_turn};
@@ -53,7 +54,32 @@ pub const ALL: Script = (
     ],
 );
 
-static SCRIPTS: [Script; 4] = [ALL, SUM_NOTIFIED, HELD_MOVED, EXCHANGED];
+/// Values that an opaque vertex sends, a capability that it keeps, and one that it drops.
+const SENT: Script = (
+    TRACED,
+    1,
+    &[
+        Told::Feed(0, "a", &[7], Next::Close),
+        Told::Take(0, "ax", &[0], 7),
+        Told::Send(
+            0,
+            "x",
+            Sent {
+                time: &[0],
+                at: Some(&[2]),
+                port: 1,
+                values: &[5, 6, 7, 8],
+                dest: Some(0),
+            },
+        ),
+        Told::Keep(0, "x", &[0], &[3]),
+        Told::Release(0, "x", &[0], None),
+        Told::All(0),
+        Told::Receive(0, 0),
+    ],
+);
+
+static SCRIPTS: [Script; 5] = [ALL, SUM_NOTIFIED, HELD_MOVED, EXCHANGED, SENT];
 
 /// Returns the timeline that keeps the steps of a script.
 pub fn kept<A: Allocator + Copy>(json: Global, alloc: A, script: &Script) -> Option<Timeline<A>> {
