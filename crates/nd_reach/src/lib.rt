@@ -7,10 +7,8 @@ mod form;
 mod found;
 mod laws;
 mod reached;
-mod reader;
-mod reading;
 mod search;
-mod way;
+mod walker;
 mod writing;
 
 pub use fault::ReachFault;
