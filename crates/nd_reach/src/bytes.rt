@@ -8,8 +8,11 @@ use std::alloc::{AllocError, Allocator};
 
 // The number of bytes of each form after the first.
 pub(crate) const ONE: u64 = 252;
+
 pub(crate) const TWO: u8 = 252;
+
 pub(crate) const FOUR: u8 = 253;
+
 pub(crate) const EIGHT: u8 = 254;
 
 // Appends the form of a number.

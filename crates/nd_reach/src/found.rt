@@ -1,7 +1,6 @@
 //! The states that a search has found, in the order in which it found them.
-ghost use Rattle.std.specs.Prelude.{◌≡◌, ◌<◌, ◌≤◌, ◌+◌, ◌++◌, ◌∷◌, [], IsTrue, OnOk, OnErr, IfOk, length, map, Contains, ◌↔◌, Some, slice_get};
-ghost use Rattle.nd_reach.specs.Found.{forms, way_at};
-ghost use Rattle.nd_reach.specs.declared.found.Origin.{Origin as OriginValue};
+ghost use Rattle.std.specs.Prelude.{◌≡◌, ◌-◌, ◌<◌, ◌↔◌, ◌++◌, ◌∷◌, [], Contains, IfOk, IsTrue, OnOk, Some, length, slice_get};
+ghost use Rattle.nd_reach.specs.Found.{way_at};
 
 use crate::Steps;
 use crate::form::Form;
@@ -112,7 +111,7 @@ impl<A: Allocator + Copy> Found<A> {
     // Returns the way to a state: the steps of the records on its path from the first state.
     pub(crate) fn way(&self, alloc: A, state: usize) -> Result<Steps<A>, AllocError>
         requires { state < length self.now.forms }
-        ensures { IfOk result (λ w. Some w ≡ slice_get (ways self.now) state) }
+        ensures { IfOk result (λ w. w ≡ way_at self.now state) }
     {
         let mut steps = Steps::new(alloc);
         let mut at = state;

@@ -6,7 +6,7 @@ ghost use Rattle.nd_reach.specs.Reach.{IsExact, IsReached};
 use crate::form::Form;
 use crate::found::{Found, Origin};
 use crate::walker::Walker;
-use crate::{Allowed, Reached, ReachFault};
+use crate::{Allowed, ReachFault, Reached};
 use nd_breaks::Condition;
 use nd_cluster::{Cluster, Record};
 use std::alloc::{AllocError, Allocator};

@@ -1,11 +1,10 @@
 //! A walk over the states that a search has found: a cluster that goes from one to another.
-ghost use Rattle.std.specs.Prelude.{◌≡◌, ◌<◌, OnOk, length};
-ghost use Rattle.nd_protocol.specs.State.{ClusterState};
-ghost use Rattle.nd_cluster.specs.declared.moves.Allowed.{Allowed};
-ghost use Rattle.nd_reach.specs.Found.{AreFound, StandsAt};
+ghost use Rattle.std.specs.Prelude.{◌≡◌, ◌-◌, ◌<◌, OnOk, Some, option_map, length, slice_get};
+ghost use Rattle.nd_reach.specs.Found.{IsWalk, Walks};
+ghost use Rattle.nd_reach.specs.declared.found.Origin.{Origin};
 
-use crate::found::Found;
 use crate::ReachFault;
+use crate::found::Found;
 use nd_cluster::Cluster;
 use std::alloc::{Allocator, Global};
 
@@ -23,7 +22,14 @@ impl<A: Allocator + Copy> Drop for Walker<A> {
 
 impl<A: Allocator + Copy> Walker<A> {
     // Goes back to the state from which the walker's state was found: undoes the record that leads from there.
-    fn retreat(&mut self, found: &Found<A>) -> Result<(), ReachFault> {
+    fn retreat(&mut self, found: &Found<A>) -> Result<(), ReachFault>
+        requires walk { IsWalk found.now self.old.cluster self.old.at }
+        requires some { 0 < self.old.at }
+        ensures walks { OnOk result (Walks found.now
+            self.old.cluster self.old.at self.new.cluster self.new.at) }
+        ensures at { OnOk result (option_map (λ (o : Origin A). o.parent)
+            (slice_get found.now.origins (self.old.at - 1)) ≡ Some self.new.at) }
+    {
         let origin = found.origin(self.at);
         self.cluster.back(&origin.planned)?;
         self.at = origin.parent as usize;
@@ -31,7 +37,16 @@ impl<A: Allocator + Copy> Walker<A> {
     }
 
     // Goes to a state that was found from the walker's state: executes the record that leads there.
-    fn advance(&mut self, found: &Found<A>, state: usize) -> Result<(), ReachFault> {
+    fn advance(&mut self, found: &Found<A>, state: usize) -> Result<(), ReachFault>
+        requires walk { IsWalk found.now self.old.cluster self.old.at }
+        requires there { state < length found.now.forms }
+        requires next { 0 < state }
+        requires parent { option_map (λ (o : Origin A). o.parent)
+            (slice_get found.now.origins (state - 1)) ≡ Some self.old.at }
+        ensures walks { OnOk result (Walks found.now
+            self.old.cluster self.old.at self.new.cluster state) }
+        ensures at { OnOk result (self.new.at ≡ state) }
+    {
         self.cluster.commit(&found.origin(state).planned)?;
         self.at = state;
         Ok(())
@@ -44,7 +59,13 @@ impl<A: Allocator + Copy> Walker<A> {
         alloc: A,
         found: &Found<A>,
         state: usize,
-    ) -> Result<(), ReachFault> {
+    ) -> Result<(), ReachFault>
+        requires walk { IsWalk found.now self.old.cluster self.old.at }
+        requires there { state < length found.now.forms }
+        ensures walks { OnOk result (Walks found.now
+            self.old.cluster self.old.at self.new.cluster state) }
+        ensures at { OnOk result (self.new.at ≡ state) }
+    {
         let mut ahead = Vec::new(alloc);
         let mut next = state;
         while next != self.at {
