@@ -1,10 +1,9 @@
 //! The form of a cluster's state, written part by part.
-ghost use Rattle.std.specs.Prelude.{◌≡◌, ◌<◌, ◌≤◌, ◌++◌, OnOk, length, map, reverse};
-ghost use Rattle.std.specs.List.{flat_map};
+ghost use Rattle.std.specs.Prelude.{◌≡◌, ◌<◌, ◌≤◌, ◌++◌, [], OnOk, drop, length, reverse, slice_index_or};
 ghost use Rattle.std.specs.FinMap as fin;
 ghost use Rattle.nd_map.specs.Counts.{entries as counts_of};
-ghost use Rattle.nd_delta.specs.Delta.{entries as entries_of};
-ghost use Rattle.nd_protocol.specs.State.{processor as processor_in, queue as queue_in, view as view_in};
+ghost use Rattle.nd_processor.specs.State.{items_at};
+ghost use Rattle.nd_protocol.specs.State.{queue as queue_in};
 ghost use Rattle.nd_reach.specs.Bytes.{list, point};
 ghost use Rattle.nd_reach.specs.Forms.{change_form, form as form_of, in_common, items_form, longest, processor_form, queue_form, record_form, row_form, sink_form, token_form, vertex_form};
 
@@ -239,7 +238,7 @@ fn put_row<A: Allocator + Copy>(
 ) -> Result<(), AllocError>
     requires { from < length cluster.now.processors }
     ensures { OnOk result (bytes.new.items
-        ≡ bytes.old.items ++ row_form (row cluster.now.queues from)) }
+        ≡ bytes.old.items ++ row_form (slice_index_or cluster.now.queues from [])) }
 {
     let longest = longest_to(cluster, from);
     put_older(bytes, cluster, from, longest, 0)?;
