@@ -2,6 +2,7 @@
 #![tactic(auto)]
 
 mod bytes;
+mod entries;
 mod fault;
 mod form;
 mod found;

@@ -1,13 +1,13 @@
 //! The form of a cluster's state, written part by part.
 ghost use Rattle.std.specs.Prelude.{◌≡◌, ◌<◌, ◌≤◌, ◌++◌, [], OnOk, drop, length, reverse, slice_index_or};
-ghost use Rattle.std.specs.FinMap as fin;
 ghost use Rattle.nd_map.specs.Counts.{entries as counts_of};
 ghost use Rattle.nd_processor.specs.State.{items_at};
 ghost use Rattle.nd_protocol.specs.State.{queue as queue_in};
-ghost use Rattle.nd_reach.specs.Bytes.{list, point};
-ghost use Rattle.nd_reach.specs.Forms.{change_form, form as form_of, in_common, items_form, longest, processor_form, queue_form, record_form, row_form, sink_form, token_form, vertex_form};
+ghost use Rattle.nd_reach.specs.Bytes.{list};
+ghost use Rattle.nd_reach.specs.Forms.{change_form, form as form_of, in_common, items_form, processor_form, row_form, vertex_form};
 
-use crate::bytes::{put_entry, put_integer, put_number, put_point, put_time};
+use crate::bytes::put_number;
+use crate::entries::{count_of, put_list, put_map};
 use crate::form::Form;
 use nd_cluster::Cluster;
 use nd_delta::{Delta, LargeDelta};
@@ -15,55 +15,6 @@ use nd_processor::Processor;
 use std::alloc::{AllocError, Allocator};
 
 type Bytes<A> = Vec<u8, A>;
-
-// Appends the form of the records of a processor.
-fn put_records<A: Allocator + Copy>(
-    bytes: &mut Bytes<A>,
-    processor: &Processor<A>,
-) -> Result<(), AllocError>
-    ensures { OnOk result (bytes.new.items
-        ≡ bytes.old.items ++ list record_form (counts_of processor.now.records)) }
-{
-    put_number(bytes, processor.records().count() as u64)?;
-    for (key, count) in processor.records() {
-        put_point(bytes, &key.point)?;
-        put_integer(bytes, key.value)?;
-        put_number(bytes, *count)?;
-    }
-    Ok(())
-}
-
-// Appends the form of the requests of a processor.
-fn put_requests<A: Allocator + Copy>(
-    bytes: &mut Bytes<A>,
-    processor: &Processor<A>,
-) -> Result<(), AllocError>
-    ensures { OnOk result (bytes.new.items
-        ≡ bytes.old.items ++ list point (fin.keys processor.now.requests)) }
-{
-    put_number(bytes, processor.requests().count() as u64)?;
-    for (point, _) in processor.requests() {
-        put_point(bytes, point)?;
-    }
-    Ok(())
-}
-
-// Appends the form of the tokens of a processor.
-fn put_tokens<A: Allocator + Copy>(
-    bytes: &mut Bytes<A>,
-    processor: &Processor<A>,
-) -> Result<(), AllocError>
-    ensures { OnOk result (bytes.new.items
-        ≡ bytes.old.items ++ list token_form (fin.entries processor.now.tokens)) }
-{
-    let tokens = processor.tokens();
-    put_number(bytes, tokens.len() as u64)?;
-    for token in tokens {
-        put_number(bytes, token.0 as u64)?;
-        put_number(bytes, u64::from(token.1))?;
-    }
-    Ok(())
-}
 
 // Appends the form of the items of a vertex of a processor.
 fn put_vertex<A: Allocator + Copy>(
@@ -75,19 +26,12 @@ fn put_vertex<A: Allocator + Copy>(
     ensures { OnOk result (bytes.new.items ≡ bytes.old.items
         ++ vertex_form vertex (counts_of (items_at processor.now vertex))) }
 {
-    let state = processor.vertex_state(vertex);
-    let count = state.entries().count();
+    let count = count_of(processor.vertex_state(vertex).entries());
     if count == 0 {
         return Ok(());
     }
     put_number(bytes, vertex as u64 + 1)?;
-    put_number(bytes, count as u64)?;
-    for (key, number) in state.entries() {
-        put_time(bytes, &key.time)?;
-        put_integer(bytes, key.item)?;
-        put_integer(bytes, *number)?;
-    }
-    Ok(())
+    put_map(bytes, count, processor.vertex_state(vertex).entries())
 }
 
 // Appends the form of the items of a processor.
@@ -103,23 +47,6 @@ fn put_items<A: Allocator + Copy>(
     put_number(bytes, 0)
 }
 
-// Appends the form of what the sinks of a processor have counted.
-fn put_sinks<A: Allocator + Copy>(
-    bytes: &mut Bytes<A>,
-    processor: &Processor<A>,
-) -> Result<(), AllocError>
-    ensures { OnOk result (bytes.new.items
-        ≡ bytes.old.items ++ list sink_form (counts_of processor.now.sinks)) }
-{
-    put_number(bytes, processor.sinks().count() as u64)?;
-    for (key, count) in processor.sinks() {
-        put_number(bytes, key.vertex as u64)?;
-        put_integer(bytes, key.value)?;
-        put_number(bytes, *count)?;
-    }
-    Ok(())
-}
-
 // Appends the form of a view or of what is unsent.
 fn put_counts<A: Allocator + Copy>(
     bytes: &mut Bytes<A>,
@@ -127,11 +54,7 @@ fn put_counts<A: Allocator + Copy>(
 ) -> Result<(), AllocError>
     ensures { OnOk result (bytes.new.items ≡ bytes.old.items ++ change_form counts.now) }
 {
-    put_number(bytes, counts.len() as u64)?;
-    for (point, n) in counts.iter() {
-        put_entry(bytes, point, *n)?;
-    }
-    Ok(())
+    put_map(bytes, counts.len(), counts.iter())
 }
 
 // Appends the form of a processor.
@@ -141,11 +64,15 @@ fn put_processor<A: Allocator + Copy>(
 ) -> Result<(), AllocError>
     ensures { OnOk result (bytes.new.items ≡ bytes.old.items ++ processor_form processor.now) }
 {
-    put_records(bytes, processor)?;
-    put_requests(bytes, processor)?;
-    put_tokens(bytes, processor)?;
+    put_map(bytes, count_of(processor.records()), processor.records())?;
+    put_map(
+        bytes,
+        count_of(processor.requests()),
+        processor.requests(),
+    )?;
+    put_list(bytes, processor.tokens())?;
     put_items(bytes, processor)?;
-    put_sinks(bytes, processor)?;
+    put_map(bytes, count_of(processor.sinks()), processor.sinks())?;
     put_counts(bytes, processor.unsent())
 }
 
@@ -156,12 +83,7 @@ fn put_change<A: Allocator + Copy>(
 ) -> Result<(), AllocError>
     ensures { OnOk result (bytes.new.items ≡ bytes.old.items ++ change_form change.now) }
 {
-    let entries = change.entries();
-    put_number(bytes, entries.len() as u64)?;
-    for entry in entries {
-        put_entry(bytes, &entry.0, entry.1)?;
-    }
-    Ok(())
+    put_list(bytes, change.entries())
 }
 
 // Returns a receiver whose queue from a processor is one of the longest.
