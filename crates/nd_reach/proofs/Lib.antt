@@ -4,3 +4,4 @@ pub mod Parts
 pub mod Rows
 pub mod States
 pub mod Written
+pub mod Queues

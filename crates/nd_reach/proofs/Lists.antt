@@ -1,9 +1,9 @@
 -- Forms of pairs and of lists tell values apart if those of their parts do.
-use Rattle.std.proofs.Common.{◌≡◌, ℕ, suc, List, [], ◌∷◌, ◌++◌, length, refl, sym, ap, ◌∙◌, append_assoc}
+use Rattle.std.proofs.Common.{◌≡◌, ℕ, List, [], ◌∷◌, ◌++◌, length, refl, sym, ◌∙◌, append_assoc}
 use Rattle.std.specs.Prelude.{All}
 use Rattle.std.proofs.lemmas.List.Elements.{All-head, All-tail}
 use Rattle.std.specs.List.{flat_map}
-use Rattle.nd_reach.specs.Bytes.{number, list}
+use Rattle.nd_reach.specs.Bytes.{list}
 use Rattle.nd_reach.proofs.Numbers.{Tells, tells_number}
 
 -- a form tells its value apart before others
@@ -20,8 +20,8 @@ told_both {f} {g} t u x y a b r s e =
 pub tells_both : {X Y : Type 0} {f : X → List ℕ} {g : Y → List ℕ} → Tells f → Tells g → Tells (λ (p : X × Y). f p.0 ++ g p.1)
 tells_both t u = record {
   told = λ p q r s e.
-    let all = told_both t u p.0 q.0 p.1 q.1 r s e in
-    (λ i. (all.0 i, all.1.0 i), all.1.1)
+      let all = told_both t u p.0 q.0 p.1 q.1 r s e in
+      (λ i. (all.0 i, all.1.0 i), all.1.1);
 }
 
 -- The forms of lists of one length, of whose elements P holds, tell them apart if forms do where P holds.
@@ -32,7 +32,7 @@ told_each P f tells [] (y ∷ ys) r s p q n e = absurd (cc)
 told_each P f tells (x ∷ xs) [] r s p q n e = absurd (cc)
 told_each P f tells (x ∷ xs) (y ∷ ys) r s p q n e =
     let one = tells x y (flat_map f xs ++ r) (flat_map f ys ++ s) (All-head P x xs p) (All-head P y ys q)
-      (sym (append_assoc (f x) (flat_map f xs) r) ∙ e ∙ append_assoc (f y) (flat_map f ys) s) in
+    (sym (append_assoc (f x) (flat_map f xs) r) ∙ e ∙ append_assoc (f y) (flat_map f ys) s) in
     let others = told_each P f tells xs ys r s (All-tail P x xs p) (All-tail P y ys q) (cc) one.1 in
     (λ i. one.0 i ∷ others.0 i, others.1)
 
@@ -49,6 +49,6 @@ told_all {f} t (x ∷ xs) (y ∷ ys) r s n e =
 pub tells_list : {X : Type 0} {f : X → List ℕ} → Tells f → Tells (list f)
 tells_list {f} t = record {
   told = λ xs ys r s e.
-    let count = told_before tells_number (length xs) (length ys) (flat_map f xs) (flat_map f ys) r s e in
-    told_all t xs ys r s count.0 count.1
+      let count = told_before tells_number (length xs) (length ys) (flat_map f xs) (flat_map f ys) r s e in
+      told_all t xs ys r s count.0 count.1;
 }

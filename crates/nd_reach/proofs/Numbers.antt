@@ -1,5 +1,5 @@
 -- The form of a number tells the number apart, whatever follows the form.
-use Rattle.std.proofs.Common.{◌≡◌, ℕ, zero, suc, ◌+◌, ◌*◌, ◌^◌, ◌<◌, ◌≤◌, ℤ, pos, negsuc, Bool, true, false, cond, List, [], ◌∷◌, ◌++◌, take, drop, replicate, refl, sym, ap, ◌∙◌, arith, nat_lt, ◌==◌}
+use Rattle.std.proofs.Common.{◌≡◌, ℕ, zero, suc, ◌+◌, ◌*◌, ◌^◌, ◌<◌, ◌≤◌, ℤ, pos, negsuc, Bool, true, false, List, [], ◌∷◌, ◌++◌, take, drop, replicate, refl, sym, ap, ◌∙◌, arith, nat_lt, ◌==◌}
 use Rattle.std.proofs.lemmas.Bool.{ltb-true}
 use Rattle.std.proofs.lemmas.Bool.Decides.{nat_tests}
 use Rattle.std.proofs.lemmas.Nat.{from_le_bytes-to_le_bytes_2, from_le_bytes-to_le_bytes_4, from_le_bytes-to_le_bytes_8}
@@ -49,8 +49,8 @@ first-number n r = first-number_by _ _ _ _ n r refl refl refl refl
 pub tells_number : Tells number
 tells_number = record {
   told = λ n m r s e.
-    let same : ◌≡◌ {A = ℕ × List ℕ} (n, r) (m, s) = sym (first-number n r) ∙ ap first e ∙ first-number m s in
-    (ap (λ (p : ℕ × List ℕ). p.0) same, ap (λ (p : ℕ × List ℕ). p.1) same)
+      let same : ◌≡◌ {A = ℕ × List ℕ} (n, r) (m, s) = sym (first-number n r) ∙ ap first e ∙ first-number m s in
+      (ap (λ (p : ℕ × List ℕ). p.0) same, ap (λ (p : ℕ × List ℕ). p.1) same);
 }
 
 -- ---- integers

@@ -1,25 +1,20 @@
 -- The forms of pointstamps, changes and processors tell them apart.
-use Rattle.std.proofs.Common.{◌≡◌, ◌≢◌, ℕ, zero, suc, ◌+◌, ◌<◌, ℤ, Bool, true, false, List, [], ◌∷◌, ◌++◌, length, map, Option, Some, None, refl, sym, ap, ◌∙◌, arith, append_assoc}
+use Rattle.std.proofs.Common.{◌≡◌, ℕ, ◌+◌, ◌<◌, ℤ, List, [], ◌∷◌, ◌++◌, length, Option, Some, None, refl, sym, ap, ◌∙◌, arith, append_assoc}
 use Rattle.std.specs.List.{flat_map, enumerate_from, list_any}
 use Rattle.std.specs.Option.{is_some}
 use Rattle.std.specs.Ordering.{eq_by_cmp}
 use Rattle.std.specs.declared.cmp.Ordering.{Ordering}
 use Rattle.std.specs.Cmp.{IsTotalOrder}
 use Rattle.std.specs.FinMap as fin
-use Rattle.std.specs.FinMap.Entries.{is_some-find}
 use Rattle.nd_map.specs.Counts.{Counts, Number, nil, or_else, same, at-entries}
 use Rattle.nd_map.specs.Counts as counts
-use Rattle.nd_time.specs.Time.{Time}
 use Rattle.nd_paths.specs.Point.{point_cmp, point_total, point_exact}
-use Rattle.nd_paths.specs.declared.point.Pointstamp.{Pointstamp}
 use Rattle.nd_delta.specs.Delta.{DeltaValue, or_zero, at-entries as in_change-entries, entries as updates, same as same_changes}
 use Rattle.nd_vertex.specs.Items.{Items, item_total, item_exact}
 use Rattle.nd_vertex.specs.declared.key.ItemKey.{ItemKey}
 use Rattle.nd_processor.specs.State.{ProcessorState, Requests}
-use Rattle.nd_processor.specs.Keys.{value_at_cmp, value_at_total, value_at_exact, sink_cmp, sink_total, sink_exact}
-use Rattle.nd_processor.specs.declared.key.ValueAt.{ValueAt}
-use Rattle.nd_processor.specs.declared.key.SinkKey.{SinkKey}
-use Rattle.nd_reach.specs.Bytes.{number, integer, list, time, point, entry}
+use Rattle.nd_processor.specs.Keys.{value_at_total, value_at_exact, sink_total, sink_exact}
+use Rattle.nd_reach.specs.Bytes.{number, list, time, point, entry}
 use Rattle.nd_reach.specs.Forms.{change_form, record_form, sink_form, token_form, item_form, vertex_form, items_form, processor_form}
 use Rattle.nd_reach.proofs.Numbers.{Tells, tells_number, tells_integer}
 use Rattle.nd_reach.proofs.Lists.{told_before, told_both, tells_both, tells_list}
@@ -29,15 +24,15 @@ use Rattle.nd_reach.proofs.Lists.{told_before, told_both, tells_both, tells_list
 pub tells_time : Tells time
 tells_time = record {
   told = λ t u r s e.
-    let all = told_both tells_number (tells_list tells_number) t.epoch u.epoch t.counters u.counters r s e in
-    (λ i. record { epoch = all.0 i; counters = all.1.0 i }, all.1.1)
+      let all = told_both tells_number (tells_list tells_number) t.epoch u.epoch t.counters u.counters r s e in
+      (λ i. record { epoch = all.0 i; counters = all.1.0 i }, all.1.1);
 }
 
 pub tells_point : Tells point
 tells_point = record {
   told = λ x y r s e.
-    let all = told_both tells_number tells_time x.location y.location x.time y.time r s e in
-    (λ i. record { location = all.0 i; time = all.1.0 i }, all.1.1)
+      let all = told_both tells_number tells_time x.location y.location x.time y.time r s e in
+      (λ i. record { location = all.0 i; time = all.1.0 i }, all.1.1);
 }
 
 pub tells_entry : Tells entry
@@ -46,15 +41,15 @@ tells_entry = tells_both tells_point tells_integer
 pub tells_record : Tells record_form
 tells_record = record {
   told = λ x y r s e.
-    let all = told_both tells_point (tells_both tells_integer tells_number) x.0.point y.0.point (x.0.value, x.1) (y.0.value, y.1) r s e in
-    (λ i. (record { point = all.0 i; value = (all.1.0 i).0 }, (all.1.0 i).1), all.1.1)
+      let all = told_both tells_point (tells_both tells_integer tells_number) x.0.point y.0.point (x.0.value, x.1) (y.0.value, y.1) r s e in
+      (λ i. (record { point = all.0 i; value = (all.1.0 i).0 }, (all.1.0 i).1), all.1.1);
 }
 
 pub tells_sink : Tells sink_form
 tells_sink = record {
   told = λ x y r s e.
-    let all = told_both tells_number (tells_both tells_integer tells_number) x.0.vertex y.0.vertex (x.0.value, x.1) (y.0.value, y.1) r s e in
-    (λ i. (record { vertex = all.0 i; value = (all.1.0 i).0 }, (all.1.0 i).1), all.1.1)
+      let all = told_both tells_number (tells_both tells_integer tells_number) x.0.vertex y.0.vertex (x.0.value, x.1) (y.0.value, y.1) r s e in
+      (λ i. (record { vertex = all.0 i; value = (all.1.0 i).0 }, (all.1.0 i).1), all.1.1);
 }
 
 pub tells_token : Tells token_form
@@ -63,8 +58,8 @@ tells_token = tells_both tells_number tells_number
 pub tells_item : Tells item_form
 tells_item = record {
   told = λ x y r s e.
-    let all = told_both tells_time (tells_both tells_integer tells_integer) x.0.time y.0.time (x.0.item, x.1) (y.0.item, y.1) r s e in
-    (λ i. (record { time = all.0 i; item = (all.1.0 i).0 }, (all.1.0 i).1), all.1.1)
+      let all = told_both tells_time (tells_both tells_integer tells_integer) x.0.time y.0.time (x.0.item, x.1) (y.0.item, y.1) r s e in
+      (λ i. (record { time = all.0 i; item = (all.1.0 i).0 }, (all.1.0 i).1), all.1.1);
 }
 
 -- ---- maps with the same entries, or the same keys, are the same
@@ -84,15 +79,15 @@ same_units (Some u) (Some v) e = refl
 pub same_requests : (m n : Requests) → fin.keys m ≡ fin.keys n → m ≡ n
 same_requests m n e =
     fin.same_map point_total point_exact m n (λ q. same_units (fin.get m q) (fin.get n q)
-      (fin.contains_key-keys m q ∙ ap (λ ks. list_any (eq_by_cmp point_cmp q) ks) e ∙ sym (fin.contains_key-keys n q)))
+    (fin.contains_key-keys m q ∙ ap (λ ks. list_any (eq_by_cmp point_cmp q) ks) e ∙ sym (fin.contains_key-keys n q)))
 
 -- ---- changes
 
 pub tells_change : Tells change_form
 tells_change = record {
   told = λ c d r s e.
-    let all = (tells_list tells_entry).told (updates c) (updates d) r s e in
-    (same_updates c d all.0, all.1)
+      let all = (tells_list tells_entry).told (updates c) (updates d) r s e in
+      (same_updates c d all.0, all.1);
 }
 
 -- ---- items
@@ -116,7 +111,7 @@ past_items l k [] r h t e = omega (arith, (tells_number.told 0 (l + 1) r t e).0)
 past_items l k (x ∷ items) r h t e =
     let others = flat_map (λ v. vertex_form v.0 (counts.entries v.1)) (enumerate_from (k + 1) items) in
     past_vertex l k (counts.entries x) (items_from (k + 1) items r) h (past_items l (k + 1) items r (omega arith)) t
-      (sym (append_assoc (vertex_form k (counts.entries x)) others (number 0 ++ r)) ∙ e)
+    (sym (append_assoc (vertex_form k (counts.entries x)) others (number 0 ++ r)) ∙ e)
 
 told_vertex : (l : ℕ) (es fs : List (ItemKey × ℤ)) (a b : List ℕ) → IsPast l a → IsPast l b → vertex_form l es ++ a ≡ vertex_form l fs ++ b → (es ≡ fs) × (a ≡ b)
 told_vertex l [] [] a b p q e = (refl, e)
@@ -132,8 +127,8 @@ told_items_from l (x ∷ xs) (y ∷ ys) r s n e =
     let left = flat_map (λ v. vertex_form v.0 (counts.entries v.1)) (enumerate_from (l + 1) xs) in
     let right = flat_map (λ v. vertex_form v.0 (counts.entries v.1)) (enumerate_from (l + 1) ys) in
     let one = told_vertex l (counts.entries x) (counts.entries y) (items_from (l + 1) xs r) (items_from (l + 1) ys s)
-      (past_items l (l + 1) xs r (omega arith)) (past_items l (l + 1) ys s (omega arith))
-      (sym (append_assoc (vertex_form l (counts.entries x)) left (number 0 ++ r)) ∙ e ∙ append_assoc (vertex_form l (counts.entries y)) right (number 0 ++ s)) in
+    (past_items l (l + 1) xs r (omega arith)) (past_items l (l + 1) ys s (omega arith))
+    (sym (append_assoc (vertex_form l (counts.entries x)) left (number 0 ++ r)) ∙ e ∙ append_assoc (vertex_form l (counts.entries y)) right (number 0 ++ s)) in
     let first = same_counts item_total item_exact x y one.0 in
     let others = told_items_from (l + 1) xs ys r s (cc) one.1 in
     (λ i. first i ∷ others.0 i, others.1)
@@ -143,7 +138,7 @@ told_items xs ys a b r s n e =
     let left = flat_map (λ v. vertex_form v.0 (counts.entries v.1)) (enumerate_from 0 xs) in
     let right = flat_map (λ v. vertex_form v.0 (counts.entries v.1)) (enumerate_from 0 ys) in
     told_items_from 0 xs ys (a ++ r) (b ++ s) n
-      (sym (append_assoc left (number 0) (a ++ r)) ∙ sym (append_assoc (items_form xs) a r) ∙ e ∙ append_assoc (items_form ys) b s ∙ append_assoc right (number 0) (b ++ s))
+    (sym (append_assoc left (number 0) (a ++ r)) ∙ sym (append_assoc (items_form xs) a r) ∙ e ∙ append_assoc (items_form ys) b s ∙ append_assoc right (number 0) (b ++ s))
 
 -- ---- processors
 
@@ -159,12 +154,14 @@ told_processor p q r s n e =
     let same_records = same_counts value_at_total value_at_exact p.records q.records records.0 in
     let same_asked = same_requests p.requests q.requests requests.0 in
     let same_tokens = fin.same_entries_map p.tokens q.tokens tokens.0 in
-    let same_sinks = same_counts sink_total sink_exact p.sinks q.sinks sinks.0 in
-    (λ i. record {
-      records = same_records i;
-      requests = same_asked i;
-      tokens = same_tokens i;
-      items = items.0 i;
-      sinks = same_sinks i;
-      unsent = unsent.0 i;
-    }, unsent.1)
+    let same_sinks = same_counts sink_total sink_exact p.sinks q.sinks sinks.0 in (
+      λ i. record {
+        records = same_records i;
+        requests = same_asked i;
+        tokens = same_tokens i;
+        items = items.0 i;
+        sinks = same_sinks i;
+        unsent = unsent.0 i;
+      },
+      unsent.1,
+    )

@@ -2,10 +2,9 @@
 use Rattle.std.proofs.Common.{◌≡◌, ℕ, zero, suc, Bool, true, false, cond, List, [], ◌∷◌, ◌++◌, length, map, reverse, take, drop, refl, sym, ap, subst, ◌∙◌}
 use Rattle.std.specs.List.{flat_map}
 use Rattle.std.specs.Str.{bytes_eq}
-use Rattle.std.proofs.lemmas.List.{append-nil, length-map, reverse-reverse, take-append-drop}
+use Rattle.std.proofs.lemmas.List.{length-map, reverse-reverse, take-append-drop}
 use Rattle.std.proofs.lemmas.Slice.Eq.{bytes_eq-Decides}
 use Rattle.nd_delta.specs.Delta.{DeltaValue}
-use Rattle.nd_reach.specs.Bytes.{number, list}
 use Rattle.nd_reach.specs.Forms.{change_form, in_common, longest, queue_form, row_form}
 use Rattle.nd_reach.proofs.Numbers.{Tells, tells_number}
 use Rattle.nd_reach.proofs.Lists.{told_before, told_all, told_both, tells_list}
@@ -33,13 +32,13 @@ taken (c ∷ cs) (d ∷ ds) = taken_by (bytes_eq (change_form c) (change_form d)
 pub tells_queue : (other : List DeltaValue) → Tells (queue_form other)
 tells_queue other = record {
   told = λ xs ys r s e.
-    let j = in_common other xs in
-    let k = in_common other ys in
-    let all = told_both tells_number (tells_list tells_change) j k (drop j xs) (drop k ys) r s e in
-    let left : xs ≡ take j other ++ drop j xs = sym (take-append-drop j xs) ∙ ap (λ zs. zs ++ drop j xs) (taken other xs) in
-    let right : ys ≡ take k other ++ drop k ys = sym (take-append-drop k ys) ∙ ap (λ zs. zs ++ drop k ys) (taken other ys) in
-    let middle : take j other ++ drop j xs ≡ take k other ++ drop k ys = λ i. take (all.0 i) other ++ all.1.0 i in
-    (left ∙ middle ∙ sym right, all.1.1)
+      let j = in_common other xs in
+      let k = in_common other ys in
+      let all = told_both tells_number (tells_list tells_change) j k (drop j xs) (drop k ys) r s e in
+      let left : xs ≡ take j other ++ drop j xs = sym (take-append-drop j xs) ∙ ap (λ zs. zs ++ drop j xs) (taken other xs) in
+      let right : ys ≡ take k other ++ drop k ys = sym (take-append-drop k ys) ∙ ap (λ zs. zs ++ drop k ys) (taken other ys) in
+      let middle : take j other ++ drop j xs ≡ take k other ++ drop k ys = λ i. take (all.0 i) other ++ all.1.0 i in
+      (left ∙ middle ∙ sym right, all.1.1);
 }
 
 -- ---- the queues from a processor
@@ -58,6 +57,6 @@ told_row xs ys r s n e =
     let second = longest (map reverse ys) in
     let begun = told_before (tells_list tells_change) first second (flat_map (queue_form first) (map reverse xs)) (flat_map (queue_form second) (map reverse ys)) r s e in
     let rest : flat_map (queue_form first) (map reverse xs) ++ r ≡ flat_map (queue_form first) (map reverse ys) ++ s =
-      subst (λ other. flat_map (queue_form first) (map reverse xs) ++ r ≡ flat_map (queue_form other) (map reverse ys) ++ s) (sym begun.0) begun.1 in
+    subst (λ other. flat_map (queue_form first) (map reverse xs) ++ r ≡ flat_map (queue_form other) (map reverse ys) ++ s) (sym begun.0) begun.1 in
     let others = told_all (tells_queue first) (map reverse xs) (map reverse ys) r s (length-map xs reverse ∙ n ∙ sym (length-map ys reverse)) rest in
     (sym (mapped_back xs) ∙ ap (map reverse) others.0 ∙ mapped_back ys, others.1)

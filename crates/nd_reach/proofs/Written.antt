@@ -1,9 +1,17 @@
 -- Forms written one after the other.
-use Rattle.std.proofs.Common.{◌≡◌, ℕ, suc, ◌+◌, ◌<◌, List, [], ◌∷◌, ◌++◌, length, map, drop, get_or, refl, sym, ap, ◌∙◌, append_assoc, drop-cons, add-one}
+use Rattle.std.proofs.Common.{◌≡◌, ℕ, suc, ◌+◌, ◌<◌, List, [], ◌∷◌, ◌++◌, length, map, drop, get_or, sym, ap, ◌∙◌, append_assoc, drop-cons, add-one}
 use Rattle.std.specs.List.{flat_map}
-use Rattle.std.proofs.lemmas.List.{append-nil, drop_all, length-map}
+use Rattle.std.proofs.lemmas.List.{append-nil, length-map}
 use Rattle.std.proofs.lemmas.List.Folds.{flat_map-map}
-use Rattle.nd_reach.specs.Bytes.{number, list}
+use Rattle.std.specs.FinMap as fin
+use Rattle.nd_paths.specs.declared.point.Pointstamp.{Pointstamp}
+use Rattle.nd_map.specs.Counts.{entries}
+use Rattle.nd_delta.specs.Delta.{DeltaValue}
+use Rattle.nd_processor.specs.State.{ProcessorState}
+use Rattle.nd_processor.specs.declared.key.ValueAt.{ValueAt}
+use Rattle.nd_processor.specs.declared.key.SinkKey.{SinkKey}
+use Rattle.nd_reach.specs.Bytes.{number, list, point}
+use Rattle.nd_reach.specs.Forms.{change_form, items_form, processor_form, record_form, sink_form, token_form}
 
 -- the bytes that there will be after the forms of these items too
 abbrev pub to_come : {X : Type 0} → (X → List ℕ) → List ℕ → List X → List ℕ
@@ -31,3 +39,32 @@ list_written f xs rest n first old new count none begun e =
     ∙ ap (λ bs. bs ++ flat_map f xs) begun
     ∙ append_assoc first (number n) (flat_map f xs)
     ∙ ap (λ k. first ++ (number k ++ flat_map f xs)) count
+
+-- one form was written, and then another
+pub then_more : (old new last a b : List ℕ) → new ≡ old ++ a → last ≡ new ++ b → last ≡ old ++ (a ++ b)
+then_more old new last a b one other = other ∙ ap (λ bs. bs ++ b) one ∙ append_assoc old a b
+
+-- ---- a processor
+
+-- the pointstamps of requests are the keys of a map
+requested : (es : List (Pointstamp × Unit {0})) → list (λ (e : Pointstamp × Unit {0}). point e.0) es ≡ list point (map (λ (e : Pointstamp × Unit {0}). e.0) es)
+requested es =
+    ap (λ k. number k ++ flat_map (λ (e : Pointstamp × Unit {0}). point e.0) es) (sym (length-map es (λ (e : Pointstamp × Unit {0}). e.0)))
+    ∙ ap (λ bs. number (length (map (λ (e : Pointstamp × Unit {0}). e.0) es)) ++ bs) (sym (flat_map-map point (λ (e : Pointstamp × Unit {0}). e.0) es))
+
+-- the parts of a processor were written in turn
+pub processor_written : (q : ProcessorState) (records : List (ValueAt × ℕ)) (requests : List (Pointstamp × Unit {0})) (tokens : List (ℕ × ℕ)) (sinks : List (SinkKey × ℕ)) (unsent : DeltaValue) (old a b c d e new : List ℕ)
+    → records ≡ entries q.records → requests ≡ fin.entries q.requests → tokens ≡ fin.entries q.tokens → sinks ≡ entries q.sinks → unsent ≡ q.unsent
+    → a ≡ old ++ list record_form records → b ≡ a ++ list (λ (x : Pointstamp × Unit {0}). point x.0) requests → c ≡ b ++ list token_form tokens → d ≡ c ++ items_form q.items
+    → e ≡ d ++ list sink_form sinks → new ≡ e ++ change_form unsent → new ≡ old ++ processor_form q
+processor_written q records requests tokens sinks unsent old a b c d e new r s t u v h i j k l m =
+    let one = h ∙ ap (λ es. old ++ list record_form es) r in
+    let two = i ∙ ap (λ es. a ++ list (λ (x : Pointstamp × Unit {0}). point x.0) es) s ∙ ap (λ bs. a ++ bs) (requested (fin.entries q.requests)) in
+    let three = j ∙ ap (λ es. b ++ list token_form es) t in
+    let five = l ∙ ap (λ es. d ++ list sink_form es) u in
+    let six = m ∙ ap (λ x. e ++ change_form x) v in
+    let last = then_more d e new (list sink_form (entries q.sinks)) (change_form q.unsent) five six in
+    let from_items = then_more c d new (items_form q.items) _ k last in
+    let from_tokens = then_more b c new (list token_form (fin.entries q.tokens)) _ three from_items in
+    let from_requests = then_more a b new (list point (fin.keys q.requests)) _ two from_tokens in
+    then_more old a new (list record_form (entries q.records)) _ one from_requests

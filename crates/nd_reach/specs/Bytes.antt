@@ -39,4 +39,3 @@ point x = number x.location ++ time x.time
 -- a pointstamp with an integer
 abbrev pub entry : Pointstamp × ℤ → List ℕ
 entry e = point e.0 ++ integer e.1
-

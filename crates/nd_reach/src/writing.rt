@@ -1,10 +1,10 @@
 //! The form of a cluster's state, written part by part.
-ghost use Rattle.std.specs.Prelude.{◌≡◌, ◌<◌, ◌≤◌, ◌++◌, [], OnOk, drop, length, reverse, slice_index_or};
+ghost use Rattle.std.specs.Prelude.{◌≡◌, ◌≢◌, ◌<◌, ◌≤◌, ◌++◌, [], MatchBool, OnOk, drop, length, slice_index_or};
 ghost use Rattle.nd_map.specs.Counts.{entries as counts_of};
 ghost use Rattle.nd_processor.specs.State.{items_at};
 ghost use Rattle.nd_protocol.specs.State.{queue as queue_in};
 ghost use Rattle.nd_reach.specs.Bytes.{list};
-ghost use Rattle.nd_reach.specs.Forms.{change_form, form as form_of, in_common, items_form, processor_form, row_form, vertex_form};
+ghost use Rattle.nd_reach.specs.Forms.{change_form, form as form_of, in_common, items_form, longer_of, longest, newest_first, processor_form, queue_form, row_form, rows_newest, vertex_form};
 
 use crate::bytes::put_number;
 use crate::entries::{count_of, put_list, put_map};
@@ -30,6 +30,7 @@ fn put_vertex<A: Allocator + Copy>(
     if count == 0 {
         return Ok(());
     }
+    let _ = processor.vertex_count();
     put_number(bytes, vertex as u64 + 1)?;
     put_map(bytes, count, processor.vertex_state(vertex).entries())
 }
@@ -65,11 +66,7 @@ fn put_processor<A: Allocator + Copy>(
     ensures { OnOk result (bytes.new.items ≡ bytes.old.items ++ processor_form processor.now) }
 {
     put_map(bytes, count_of(processor.records()), processor.records())?;
-    put_map(
-        bytes,
-        count_of(processor.requests()),
-        processor.requests(),
-    )?;
+    put_map(bytes, count_of(processor.requests()), processor.requests())?;
     put_list(bytes, processor.tokens())?;
     put_items(bytes, processor)?;
     put_map(bytes, count_of(processor.sinks()), processor.sinks())?;
@@ -86,18 +83,57 @@ fn put_change<A: Allocator + Copy>(
     put_list(bytes, change.entries())
 }
 
+// Returns a change of a queue: of the newest that with index 0.
+fn newest<A: Allocator + Copy>(cluster: &Cluster<A>, from: usize, to: usize, i: usize) -> &Delta<A>
+    requires from { from < length cluster.now.processors }
+    requires to { to < length cluster.now.processors }
+    requires there { i < length (queue_in cluster.now from to) }
+    ensures { slice_index_or (newest_first cluster.now from to) i result.now ≡ result.now }
+{
+    let last = cluster.queue_len(from, to) - 1;
+    cluster.queued(from, to, last - i).unwrap()
+}
+
+// Returns the receiver with the longer queue from a processor: `longest`, unless the queue to `to` is longer.
+fn longer_to<A: Allocator + Copy>(
+    cluster: &Cluster<A>,
+    from: usize,
+    longest: usize,
+    to: usize,
+) -> usize
+    requires from { from < length cluster.now.processors }
+    requires longest { longest < length cluster.now.processors }
+    requires to { to < length cluster.now.processors }
+    ensures there { result < length cluster.now.processors }
+    ensures longer { newest_first cluster.now from result
+        ≡ longer_of (newest_first cluster.now from longest) (newest_first cluster.now from to) }
+{
+    if cluster.queue_len(from, longest) < cluster.queue_len(from, to) {
+        to
+    } else {
+        longest
+    }
+}
+
 // Returns a receiver whose queue from a processor is one of the longest.
 fn longest_to<A: Allocator + Copy>(cluster: &Cluster<A>, from: usize) -> usize
     requires { from < length cluster.now.processors }
     ensures there { result < length cluster.now.processors }
+    ensures longest { newest_first cluster.now from result
+        ≡ longest (rows_newest cluster.now from) }
 {
     let mut longest = 0;
-    for to in 1..cluster.n() {
-        if cluster.queue_len(from, to) > cluster.queue_len(from, longest) {
-            longest = to;
-        }
+    for to in 0..cluster.n() {
+        longest = longer_to(cluster, from, longest, to);
     }
     longest
+}
+
+// Returns whether two changes are equal.
+fn are_equal<A: Allocator>(first: &Delta<A>, second: &Delta<A>) -> bool
+    ensures { MatchBool result (first.now ≡ second.now) (first.now ≢ second.now) }
+{
+    first.entries() == second.entries()
 }
 
 // Returns how many of the newest changes two queues from a processor have in common.
@@ -110,24 +146,21 @@ fn common_to<A: Allocator + Copy>(
     requires from { from < length cluster.now.processors }
     requires longest { longest < length cluster.now.processors }
     requires to { to < length cluster.now.processors }
-    ensures { result ≡ in_common (reverse (queue_in cluster.now from longest))
-        (reverse (queue_in cluster.now from to)) }
+    ensures common { result ≡ in_common (newest_first cluster.now from longest)
+        (newest_first cluster.now from to) }
+    ensures within { result ≤ length (queue_in cluster.now from to) }
 {
-    let (most, len) = (
-        cluster.queue_len(from, longest),
-        cluster.queue_len(from, to),
-    );
+    let len = cluster.queue_len(from, to);
     if longest == to {
         return len;
     }
-    for i in 0..len.min(most) {
-        let first = cluster.queued(from, longest, most - 1 - i).unwrap();
-        let second = cluster.queued(from, to, len - 1 - i).unwrap();
-        if first.entries() != second.entries() {
+    for i in 0..len.min(cluster.queue_len(from, longest)) {
+        let first = newest(cluster, from, longest, i);
+        if !are_equal(first, newest(cluster, from, to, i)) {
             return i;
         }
     }
-    len.min(most)
+    len.min(cluster.queue_len(from, longest))
 }
 
 // Appends the forms of the changes of a queue, the newest first, without the newest `count`.
@@ -142,14 +175,33 @@ fn put_older<A: Allocator + Copy>(
     requires to { to < length cluster.now.processors }
     requires count { count ≤ length (queue_in cluster.now from to) }
     ensures { OnOk result (bytes.new.items ≡ bytes.old.items
-        ++ list change_form (drop count (reverse (queue_in cluster.now from to)))) }
+        ++ list change_form (drop count (newest_first cluster.now from to))) }
 {
     let len = cluster.queue_len(from, to);
     put_number(bytes, (len - count) as u64)?;
     for i in count..len {
-        put_change(bytes, cluster.queued(from, to, len - 1 - i).unwrap())?;
+        put_change(bytes, newest(cluster, from, to, i))?;
     }
     Ok(())
+}
+
+// Appends the form of a queue from a processor, with what it has in common with the queue to `longest`.
+fn put_queue<A: Allocator + Copy>(
+    bytes: &mut Bytes<A>,
+    cluster: &Cluster<A>,
+    from: usize,
+    longest: usize,
+    to: usize,
+) -> Result<(), AllocError>
+    requires from { from < length cluster.now.processors }
+    requires longest { longest < length cluster.now.processors }
+    requires to { to < length cluster.now.processors }
+    ensures { OnOk result (bytes.new.items ≡ bytes.old.items
+        ++ queue_form (newest_first cluster.now from longest) (newest_first cluster.now from to)) }
+{
+    let common = common_to(cluster, from, longest, to);
+    put_number(bytes, common as u64)?;
+    put_older(bytes, cluster, from, to, common)
 }
 
 // Appends the form of the queues from a processor.
@@ -165,9 +217,7 @@ fn put_row<A: Allocator + Copy>(
     let longest = longest_to(cluster, from);
     put_older(bytes, cluster, from, longest, 0)?;
     for to in 0..cluster.n() {
-        let common = common_to(cluster, from, longest, to);
-        put_number(bytes, common as u64)?;
-        put_older(bytes, cluster, from, to, common)?;
+        put_queue(bytes, cluster, from, longest, to)?;
     }
     Ok(())
 }

@@ -1,4 +1,4 @@
-use Rattle.std.proofs.Common.{◌≡◌, ◌++◌, ℕ, ◌<◌, ◌≤◌, List, [], ◌∷◌, arith, append_assoc, refl, sym, ap, ◌∙◌}
+use Rattle.std.proofs.Common.{arith}
 use Rattle.std.proofs.lemmas.Grind.{common_steps}
 use Rattle.nd_reach.proofs.Numbers.{number-one, number-two, number-four, number-eight}
 use Rattle.nd_reach.proofs.bytes.put_number.Goals as goal

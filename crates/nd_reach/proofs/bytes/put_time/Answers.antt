@@ -1,4 +1,4 @@
-use Rattle.std.proofs.Common.{◌≡◌, ◌++◌, length, drop, refl, ap, sym, ◌∙◌, arith, append_assoc}
+use Rattle.std.proofs.Common.{◌++◌, length, drop, refl, ap, ◌∙◌, append_assoc}
 use Rattle.std.proofs.lemmas.List.{drop_all}
 use Rattle.nd_reach.specs.Bytes.{number, list}
 use Rattle.nd_reach.proofs.Written.{more_at, list_written}
