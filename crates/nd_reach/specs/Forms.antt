@@ -1,10 +1,9 @@
 -- The form of a state: bytes that tell it apart from every other state over the same graph (this project's own rule).
-use Rattle.std.specs.Prelude.{◌≡◌, ℕ, zero, suc, ◌+◌, ℤ, nat_lt, if◌then◌else◌, List, [], ◌∷◌, ◌++◌, length, map, reverse, drop}
+use Rattle.std.specs.Prelude.{◌≡◌, ℕ, zero, suc, ◌+◌, ℤ, nat_lt, if◌then◌else◌, List, [], ◌∷◌, ◌++◌, length, map, reverse, drop, slice_index_or}
 use Rattle.std.specs.List.{flat_map, enumerate_from}
 use Rattle.std.specs.Str.{bytes_eq}
 use Rattle.std.specs.FinMap as fin
 use Rattle.nd_map.specs.Counts.{entries}
-use Rattle.nd_graph.specs.Graph.{Dataflow}
 use Rattle.nd_delta.specs.Delta.{DeltaValue}
 use Rattle.nd_delta.specs.Delta.{entries as updates}
 use Rattle.nd_vertex.specs.Items.{Items}
@@ -12,7 +11,7 @@ use Rattle.nd_vertex.specs.declared.key.ItemKey.{ItemKey}
 use Rattle.nd_processor.specs.State.{ProcessorState}
 use Rattle.nd_processor.specs.declared.key.ValueAt.{ValueAt}
 use Rattle.nd_processor.specs.declared.key.SinkKey.{SinkKey}
-use Rattle.nd_protocol.specs.State.{ClusterState}
+use Rattle.nd_protocol.specs.State.{ClusterState, queue}
 use Rattle.nd_protocol.specs.Fitting.{IsState}
 use Rattle.nd_reach.specs.Bytes.{number, integer, list, time, point, entry}
 
@@ -58,10 +57,14 @@ processor_form q =
 
 -- ---- the queues from a processor
 
+-- the longer of two lists, the first if they are as long
+abbrev pub longer_of : {X : Type 0} → List X → List X → List X
+longer_of xs ys = if nat_lt (length xs) (length ys) then ys else xs
+
 -- the first of the longest lists, or the list xs if none is longer
 abbrev pub longest_of : {X : Type 0} → List X → List (List X) → List X
 longest_of xs [] = xs
-longest_of xs (ys ∷ yss) = if nat_lt (length xs) (length ys) then longest_of ys yss else longest_of xs yss
+longest_of xs (ys ∷ yss) = longest_of (longer_of xs ys) yss
 
 abbrev pub longest : {X : Type 0} → List (List X) → List X
 longest yss = longest_of [] yss
@@ -83,6 +86,14 @@ row_form row =
     list change_form (longest newest) ++ flat_map (queue_form (longest newest)) newest
 
 -- ---- a cluster
+
+-- the changes in the queue from p to q, the newest first
+abbrev pub newest_first : ClusterState → ℕ → ℕ → List DeltaValue
+newest_first s p q = reverse (queue s p q)
+
+-- the queues from p, each with its newest change first
+abbrev pub rows_newest : ClusterState → ℕ → List (List DeltaValue)
+rows_newest s p = map reverse (slice_index_or s.queues p [])
 
 -- the form of a state of a cluster with a graph
 unfoldable pub form : ClusterState → List ℕ

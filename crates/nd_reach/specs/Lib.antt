@@ -1,6 +1,5 @@
 pub mod Bytes
 pub mod Forms
-pub mod Reading
 pub mod Ways
 pub mod Reach
 pub mod Found

@@ -6,11 +6,19 @@ use nd_paths::Pointstamp;
 use nd_time::Timestamp;
 use std::alloc::{AllocError, Allocator};
 
+<<<<<<< HEAD
 // Numbers below this one are a single byte.
 const ONE: u64 = 252;
 // The first byte of a number that follows in two, four or eight bytes.
+=======
+// The number of bytes of each form after the first.
+pub(crate) const ONE: u64 = 252;
+
+>>>>>>> lane-p2
 pub(crate) const TWO: u8 = 252;
+
 pub(crate) const FOUR: u8 = 253;
+
 pub(crate) const EIGHT: u8 = 254;
 // An epoch times this, plus the number of counters, is one number: a time has fewer counters.
 pub(crate) const EPOCH: u64 = 7;

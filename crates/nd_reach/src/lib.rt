@@ -2,15 +2,14 @@
 #![tactic(auto)]
 
 mod bytes;
+mod entries;
 mod fault;
 mod form;
 mod found;
 mod laws;
 mod reached;
-mod reader;
-mod reading;
 mod search;
-mod way;
+mod walker;
 mod writing;
 
 pub use fault::ReachFault;

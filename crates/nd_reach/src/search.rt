@@ -5,9 +5,8 @@ ghost use Rattle.nd_reach.specs.Reach.{IsExact, IsReached};
 
 use crate::form::Form;
 use crate::found::{Found, Origin};
-use crate::reading::go_to;
-use crate::way::way_to;
-use crate::{Allowed, Reached, ReachFault};
+use crate::walker::Walker;
+use crate::{Allowed, ReachFault, Reached};
 use nd_breaks::Condition;
 use nd_cluster::{Cluster, Record};
 use std::alloc::{AllocError, Allocator};
@@ -24,13 +23,13 @@ enum End {
     Full,
 }
 
-// A search: the states that were found, and a cluster that goes from one to the next.
+// A search: the states that were found, and a walker that goes from one to the next.
 struct Search<'a, A: Allocator + Copy> {
     alloc: A,
     allowed: Allowed,
     when: &'a Condition,
     limit: u64,
-    walker: Cluster<A>,
+    walker: Walker<A>,
     found: Found<A>,
     // The form of the state that was met last.
     met: Form<A>,
@@ -51,41 +50,44 @@ impl<'a, A: Allocator + Copy> Drop for Search<'a, A> {
 }
 
 impl<'a, A: Allocator + Copy> Search<'a, A> {
-    // Looks at the walker's state, unless it was found before.
-    fn meet(&mut self, origin: Origin) -> Result<Option<End>, AllocError> {
-        self.met.write(&self.walker)?;
+    // Looks at the cluster's state. Returns whether the condition holds at it, or `None` if the state was found before.
+    fn look(&mut self) -> Result<Option<bool>, AllocError> {
+        self.met.write(&self.walker.cluster)?;
         if self.found.has(&self.met) {
             return Ok(None);
         }
-        if self.found.len() as u64 >= self.limit {
-            return Ok(Some(End::Full));
-        }
-        self.found.add(self.met.copy(self.alloc)?, origin)?;
-        if self.when.holds(&self.walker) {
-            return Ok(Some(End::Hit));
-        }
-        Ok(None)
+        Ok(Some(self.when.holds(&self.walker.cluster)))
     }
 
-    // Executes a move, looks at the state to which it leads, and undoes the move.
-    fn try_move(&mut self, record: &Record<A>, origin: Origin) -> Result<Option<End>, ReachFault> {
-        self.walker.commit(record)?;
-        let end = self.meet(origin)?;
-        self.walker.back(record)?;
-        Ok(end)
+    // Executes a move of the walker's state, looks at the state to which the move leads, and undoes the move.
+    fn look_past(&mut self, record: &Record<A>) -> Result<Option<bool>, ReachFault> {
+        self.walker.cluster.commit(record)?;
+        let met = self.look()?;
+        self.walker.cluster.back(record)?;
+        Ok(met)
+    }
+
+    // Tries a move of the walker's state: adds the state to which the move leads, if that state is new.
+    fn try_move(&mut self, record: Record<A>) -> Result<Option<End>, ReachFault> {
+        let Some(holds) = self.look_past(&record)? else {
+            return Ok(None);
+        };
+        if self.found.count() as u64 >= self.limit {
+            return Ok(Some(End::Full));
+        }
+        let origin = Origin {
+            parent: self.walker.at as u32,
+            planned: record.small(),
+        };
+        self.found.add(self.met.copy(self.alloc)?, origin)?;
+        if holds { Ok(Some(End::Hit)) } else { Ok(None) }
     }
 
     // Tries all moves of a state that was found.
-    fn expand(&mut self, parent: usize) -> Result<Option<End>, ReachFault> {
-        let form = self.found.form(parent).unwrap();
-        go_to(self.alloc, &mut self.walker, form.as_slice())?;
-        let moves = self.walker.moves(self.allowed)?;
-        for (place, record) in moves.iter().enumerate() {
-            let origin = Origin {
-                parent: parent as u32,
-                place: place as u32,
-            };
-            if let Some(end) = self.try_move(record, origin)? {
+    fn expand(&mut self, state: usize) -> Result<Option<End>, ReachFault> {
+        self.walker.go_to(self.alloc, &self.found, state)?;
+        for record in self.walker.cluster.moves(self.allowed)? {
+            if let Some(end) = self.try_move(record)? {
                 return Ok(Some(end));
             }
         }
@@ -94,18 +96,14 @@ impl<'a, A: Allocator + Copy> Search<'a, A> {
 
     // Looks at the state in which the search begins, and then tries the moves of each state that was found, in order.
     fn run(&mut self) -> Result<Option<End>, ReachFault> {
-        let origin = Origin {
-            parent: 0,
-            place: 0,
-        };
-        if let Some(end) = self.meet(origin)? {
-            return Ok(Some(end));
+        if self.when.holds(&self.walker.cluster) {
+            return Ok(Some(End::Hit));
         }
-        for parent in 0..self.limit as usize {
-            if parent >= self.found.len() {
+        for state in 0..self.limit as usize {
+            if state >= self.found.count() {
                 return Ok(None);
             }
-            if let Some(end) = self.expand(parent)? {
+            if let Some(end) = self.expand(state)? {
                 return Ok(Some(end));
             }
         }
@@ -113,25 +111,19 @@ impl<'a, A: Allocator + Copy> Search<'a, A> {
     }
 
     // Returns the answer after the search has ended.
-    fn answer(&mut self, end: Option<End>) -> Result<Reached<A>, ReachFault> {
-        let count = self.found.len();
+    fn answer(&self, end: Option<End>) -> Result<Reached<A>, ReachFault> {
+        let states = self.found.count();
         match end {
             Some(End::Hit) => {
-                let steps = way_to(
-                    self.alloc,
-                    &mut self.walker,
-                    self.allowed,
-                    &self.found,
-                    count - 1,
-                )?;
+                let steps = self.found.way(self.alloc, states - 1)?;
                 Ok(Reached::Way(steps))
             }
             Some(End::Full) => Ok(Reached::Nowhere {
-                states: count as u64,
+                states: states as u64,
                 whole: false,
             }),
             None => Ok(Reached::Nowhere {
-                states: count as u64,
+                states: states as u64,
                 whole: true,
             }),
         }
@@ -157,14 +149,18 @@ pub fn reach<A: Allocator + Copy>(
     if limit == 0 || limit > MAX_REACHED {
         return Err(ReachFault::BadRange);
     }
+    let cluster = cluster.copy(alloc)?;
+    let mut met = Form::new(alloc);
+    met.write(&cluster)?;
+    let found = Found::new(alloc, met.copy(alloc)?)?;
     let mut search = Search {
         alloc,
         allowed,
         when,
         limit,
-        walker: cluster.copy(alloc)?,
-        found: Found::new(alloc),
-        met: Form::new(alloc),
+        walker: Walker { cluster, at: 0 },
+        found,
+        met,
     };
     let end = search.run()?;
     search.answer(end)
