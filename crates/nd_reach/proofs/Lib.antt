@@ -5,3 +5,16 @@ pub mod Rows
 pub mod States
 pub mod Written
 pub mod Queues
+pub mod Places
+pub mod Listed
+pub mod Order
+pub mod Searched
+pub mod OneStep
+pub mod First
+pub mod Exact
+pub mod Walks
+pub mod Keys
+pub mod Tries
+pub mod Expands
+pub mod Back
+pub mod Ends

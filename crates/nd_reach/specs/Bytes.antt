@@ -3,7 +3,6 @@
 use Rattle.std.specs.Prelude.{ℕ, ◌+◌, ◌*◌, ◌^◌, ℤ, pos, negsuc, Bool, true, false, nat_lt, List, ◌∷◌, [], ◌++◌, length, replicate}
 use Rattle.std.specs.List.{flat_map}
 use Rattle.std.specs.Int.{w16, w32, w64, to_le_bytes}
-use Rattle.nd_time.specs.Limits.{max_depth}
 use Rattle.nd_time.specs.Time.{Time}
 use Rattle.nd_paths.specs.declared.point.Pointstamp.{Pointstamp}
 
@@ -29,9 +28,9 @@ integer (negsuc n) = number (2 * n + 1)
 abbrev pub list : {X : Type 0} → (X → List ℕ) → List X → List ℕ
 list f xs = number (length xs) ++ flat_map f xs
 
--- a time: the epoch and the number of counters, which is at most `max_depth`, as one number, and the counters
+-- a time: the epoch and the counters
 abbrev pub time : Time → List ℕ
-time t = number ((max_depth + 1) * t.epoch + length t.counters) ++ flat_map number t.counters
+time t = number t.epoch ++ list number t.counters
 
 -- a pointstamp: the location and the time
 abbrev pub point : Pointstamp → List ℕ

@@ -1,87 +1,124 @@
--- The states that a search has found, in the order in which it found them (this project's own rule).
-use Rattle.std.specs.Prelude.{◌≡◌, ◌≢◌, ℕ, suc, ◌<◌, ◌≤◌, List, [], ◌∷◌, ◌++◌, length, map, AllPairs, Some, slice_get, slice_index_or}
+-- The states that a search has found, by their forms, and how each was found (this project's own rule).
+use Rattle.std.specs.Prelude.{◌≡◌, ℕ, Bool, true, false, ◌+◌, ◌<◌, ◌≤◌, List, [], ◌∷◌, ◌++◌, length, map, Option, Some, None, IfSome, slice_get}
 use Rattle.nd_protocol.specs.State.{ClusterState}
 use Rattle.nd_protocol.specs.Steps.{after}
+use Rattle.nd_protocol.specs.Fitting.{IsState}
 use Rattle.nd_protocol.specs.declared.step.Step.{Step}
 use Rattle.nd_steps.specs.declared.record.Record.{Record}
 use Rattle.nd_cluster.specs.Records.{IsPlanned}
-use Rattle.nd_cluster.specs.declared.moves.Allowed.{Allowed}
+use Rattle.nd_cluster.specs.Saved.{IsSaved}
+use Rattle.nd_breaks.specs.Conditions.{ConditionValue}
 use Rattle.nd_reach.specs.Forms.{form}
-use Rattle.nd_reach.specs.Ways.{IsMove}
-use Rattle.nd_reach.specs.declared.found.Origin.{Origin}
+use Rattle.nd_reach.specs.Reach.{HoldsAfter, HoldsNowhere}
+use Rattle.nd_reach.specs.Search.{IsSearched, IsGoing}
+use Rattle.nd_reach.specs.Ways.{AreFirst, AreAll}
+use Rattle.nd_cluster.specs.declared.moves.Allowed.{Allowed}
+use Rattle.nd_reach.specs.declared.node.Node.{Node}
+use Rattle.nd_reach.specs.declared.search.End.{End}
+use Rattle.nd_reach.specs.declared.search.End.TheVariants.{Hit, Full}
 
--- The states' forms, and how each but the first was found: the origin of state i + 1 is at place i. The search begins with the
--- first, which has number 0.
-pub record FoundValue (A : Type 0) : Type 0 where
-  pub forms : List (List ℕ)
-  pub origins : List (Origin A)
+-- the move that led to the way w: none to the way without steps, and to each other the last step of the way, planned at the state
+-- to which the way of the parent leads
+abbrev pub IsMade : {A : Type 0} → ClusterState → List (List (Step A)) → ℕ → List (Step A) → ℕ → Option (Record A) → Type 0
+IsMade s ways k w parent None = w ≡ []
+IsMade {A} s ways k w parent (Some r) = record {
+  earlier : List (Step A);
+  there : slice_get ways parent ≡ Some earlier;
+  before : parent < k;
+  planned : IsPlanned r (after s earlier);
+  longer : w ≡ earlier ++ r.step ∷ [];
+}
 
--- each form is there once, each state but the first has an origin, and that names an earlier state
-pub record AreKept {A : Type 0} (found : FoundValue A) : Type 0 where
-  pub once : AllPairs (λ f g. f ≢ g) found.forms
-  pub each : length found.forms ≡ suc (length found.origins)
-  pub earlier : (i : ℕ) (o : Origin A) → slice_get found.origins i ≡ Some o → o.parent ≤ i
+-- the node of the way w, the one at the place k
+pub record IsNode {A : Type 0} (s : ClusterState) (ways : List (List (Step A))) (k : ℕ) (w : List (Step A)) (node : Node A) : Type 0 where
+  pub made : IsMade s ways k w node.parent node.made
+  pub saved : IfSome node.saved (IsSaved (after s w))
 
--- ---- ways to states
+-- a state of a cluster with the same graph and as many processors
+pub record IsAlike (s t : ClusterState) : Type 0 where
+  pub state : IsState t
+  pub graph : t.graph ≡ s.graph
+  pub many : length t.processors ≡ length s.processors
 
--- the way to state i, if these are the ways to the states
-abbrev pub way_in : {A : Type 0} → List (List (Step A)) → ℕ → List (Step A)
-way_in ways i = slice_index_or ways i []
+-- the forms of the states to which the ways lead, and the node of each
+pub record AreFound {A : Type 0} (s : ClusterState) (ways : List (List (Step A))) (forms : List (List ℕ)) (nodes : List (Node A)) : Type 0 where
+  pub forms_of : forms ≡ map (λ w. form (after s w)) ways
+  pub many : length nodes ≡ length ways
+  pub each : (k : ℕ) (w : List (Step A)) (node : Node A) → slice_get ways k ≡ Some w → slice_get nodes k ≡ Some node → IsNode s ways k w node
+  pub alike : (k : ℕ) (w : List (Step A)) → slice_get ways k ≡ Some w → IsAlike s (after s w)
 
--- the way to a state with this origin, if these are the ways to the earlier states: the way to its parent, and then the move
-abbrev pub way_by : {A : Type 0} → List (List (Step A)) → Origin A → List (Step A)
-way_by ways o = way_in ways o.parent ++ o.planned.step ∷ []
+-- ---- a search
 
--- these ways, and then those to the states with these origins
-abbrev pub ways_from : {A : Type 0} → List (List (Step A)) → List (Origin A) → List (List (Step A))
-ways_from ways [] = ways
-ways_from ways (o ∷ os) = ways_from (ways ++ way_by ways o ∷ []) os
-
--- the ways to the states that were found, in order; that to the first has no steps
-unfoldable pub ways : {A : Type 0} → FoundValue A → List (List (Step A))
-ways found = ways_from ([] ∷ []) found.origins
-
--- the way to state i
-abbrev pub way_at : {A : Type 0} → FoundValue A → ℕ → List (Step A)
-way_at found i = way_in (ways found) i
-
--- ---- states that were found from a state
-
--- the record was planned in this state, and its step is a move of the state
-pub record IsMoveOf {A : Type 0} (allowed : Allowed) (s : ClusterState) (r : Record A) : Type 0 where
-  pub planned : IsPlanned r s
-  pub move : IsMove allowed s r.step
-
--- the origin's record is that of a move of the state to which its parent's way leads from s
-pub record IsOrigin {A : Type 0} (allowed : Allowed) (s : ClusterState) (ways : List (List (Step A))) (o : Origin A) : Type 0 where
-  pub parent : o.parent < length ways
-  pub move : IsMoveOf allowed (after s (way_in ways o.parent)) o.planned
-
--- each of these origins is one, after these ways
-abbrev pub AreOrigins : {A : Type 0} → Allowed → ClusterState → List (List (Step A)) → List (Origin A) → Type 0
-AreOrigins allowed s ways [] = Unit {0}
-AreOrigins allowed s ways (o ∷ os) = IsOrigin allowed s ways o × AreOrigins allowed s (ways ++ way_by ways o ∷ []) os
-
--- a search that began at s has found these states: each by a move of an earlier one, none of them twice
-pub record AreFound {A : Type 0} (allowed : Allowed) (s : ClusterState) (found : FoundValue A) : Type 0 where
-  pub kept : AreKept found
-  pub origins : AreOrigins allowed s ([] ∷ []) found.origins
-  pub forms : found.forms ≡ map (λ way. form (after s way)) (ways found)
-
--- ---- walks over states that were found
-
--- a cluster in the state t stands at state i of those that a search from s has found
-pub record StandsAt {A : Type 0} (found : FoundValue A) (s t : ClusterState) (i : ℕ) : Type 0 where
-  pub there : i < length found.forms
-  pub state : t ≡ after s (way_at found i)
-
--- these are states that a search from some state has found, and a cluster in the state t stands at state i of them
-pub record IsWalk {A : Type 0} (found : FoundValue A) (t : ClusterState) (i : ℕ) : Type 0 where
-  pub allowed : Allowed
+-- what a search looks for: from which state, by which moves, for what, and among how many states
+pub record Wanted : Type 0 where
   pub start : ClusterState
-  pub all : AreFound allowed start found
-  pub stands : StandsAt found start t i
+  pub allowed : Allowed
+  pub when : ConditionValue
+  pub limit : ℕ
 
--- from wherever the search began: a cluster in the state t that stood at state i has come to u, and stands at state j
-abbrev pub Walks : {A : Type 0} → FoundValue A → ClusterState → ℕ → ClusterState → ℕ → Type 0
-Walks found t i u j = (allowed : Allowed) (s : ClusterState) → AreFound allowed s found → StandsAt found s t i → StandsAt found s u j
+-- a search that has gone on from the states before the place `at`
+pub record HasSearched {A : Type 0} (q : Wanted) (forms : List (List ℕ)) (nodes : List (Node A)) (at : ℕ) : Type 0 where
+  pub ways : List (List (Step A))
+  pub found : AreFound q.start ways forms nodes
+  pub searched : IsSearched q.allowed q.start ways at
+  pub none : HoldsNowhere q.when q.start ways
+  pub within : length ways ≤ q.limit
+
+-- a search that goes on from the state t at the place `at`, by those of its moves that stand before the place `next`
+pub record GoesOn {A : Type 0} (q : Wanted) (forms : List (List ℕ)) (nodes : List (Node A)) (at : ℕ) (t : ClusterState) (moves : List (Step A)) (next : ℕ) : Type 0 where
+  pub ways : List (List (Step A))
+  pub way : List (Step A)
+  pub found : AreFound q.start ways forms nodes
+  pub going : IsGoing q.allowed q.start ways at way moves next
+  pub there : t ≡ after q.start way
+  pub none : HoldsNowhere q.when q.start ways
+  pub within : length ways ≤ q.limit
+
+-- the condition holds at the state that was found last, and at none before
+pub record IsHit {A : Type 0} (q : Wanted) (forms : List (List ℕ)) (nodes : List (Node A)) : Type 0 where
+  pub earlier : List (List (Step A))
+  pub last : List (Step A)
+  pub found : AreFound q.start (earlier ++ last ∷ []) forms nodes
+  pub first : AreFirst q.allowed q.start (earlier ++ last ∷ [])
+  pub none : HoldsNowhere q.when q.start earlier
+  pub there : HoldsAfter q.when q.start last
+  pub within : length earlier < q.limit
+
+-- the condition holds at none of the states that were found, which are as many as may be looked at, and there are others
+pub record IsFull {A : Type 0} (q : Wanted) (nodes : List (Node A)) : Type 0 where
+  pub ways : List (List (Step A))
+  pub count : length nodes ≡ length ways
+  pub first : AreFirst q.allowed q.start ways
+  pub none : HoldsNowhere q.when q.start ways
+  pub limit : length ways ≡ q.limit
+  pub others : AreAll q.allowed q.start ways → ⊥
+
+-- the search has ended
+abbrev pub HasEnded : {A : Type 0} → Wanted → List (List ℕ) → List (Node A) → End → Type 0
+HasEnded q forms nodes Hit = IsHit q forms nodes
+HasEnded q forms nodes Full = IsFull q nodes
+
+-- the search goes on with the next move, or has ended
+abbrev pub HasTried : {A : Type 0} → Wanted → List (List ℕ) → List (Node A) → ℕ → ClusterState → List (Step A) → ℕ → Option End → Type 0
+HasTried q forms nodes at t moves next None = GoesOn q forms nodes at t moves (next + 1)
+HasTried q forms nodes at t moves next (Some end) = HasEnded q forms nodes end
+
+-- the walker is where it was, unless the search has ended
+abbrev pub Stays : Option End → ClusterState → ClusterState → Type 0
+Stays None old new = new ≡ old
+Stays (Some end) old new = Unit {0}
+
+-- the condition holds at the start, or the search can go on from there
+abbrev pub HasBegun : {A : Type 0} → Wanted → List (List ℕ) → List (Node A) → Bool → Type 0
+HasBegun q forms nodes true = IsHit q forms nodes
+HasBegun q forms nodes false = HasSearched q forms nodes 0
+
+-- the search goes on with the next state, or has ended
+abbrev pub HasExpanded : {A : Type 0} → Wanted → List (List ℕ) → List (Node A) → ℕ → Option End → Type 0
+HasExpanded q forms nodes at None = HasSearched q forms nodes (at + 1)
+HasExpanded q forms nodes at (Some end) = HasEnded q forms nodes end
+
+-- all states that are reached were looked at, or the search has ended
+abbrev pub HasRun : {A : Type 0} → Wanted → List (List ℕ) → List (Node A) → Option End → Type 0
+HasRun q forms nodes None = HasSearched q forms nodes (length nodes)
+HasRun q forms nodes (Some end) = HasEnded q forms nodes end

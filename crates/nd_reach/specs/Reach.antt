@@ -2,7 +2,6 @@
 use Rattle.std.specs.Prelude.{◌≡◌, ◌↔◌, ℕ, ◌+◌, ◌<◌, ◌≤◌, false, List, [], ◌∷◌, ◌++◌, length, All, IsTrue}
 use Rattle.nd_protocol.specs.State.{ClusterState}
 use Rattle.nd_protocol.specs.Steps.{after}
-use Rattle.nd_protocol.specs.Enabled.{AreEnabled}
 use Rattle.nd_protocol.specs.declared.step.Step.{Step}
 use Rattle.nd_breaks.specs.Conditions.{ConditionValue, Holds}
 use Rattle.nd_cluster.specs.declared.moves.Allowed.{Allowed}
@@ -50,13 +49,12 @@ IsNeverReached A allowed when s = (xs : List (Step A)) → IsWay allowed s xs �
 abbrev pub IsNotReachedIn : (A : Type 0) → Allowed → ConditionValue → ClusterState → ℕ → Type 0
 IsNotReachedIn A allowed when s n = (xs : List (Step A)) → IsWay allowed s xs → length xs < n → HoldsAfter when s xs → ⊥
 
--- The steps are a way, each enabled in turn, to a state at which the condition holds, and no shorter list of moves leads to one. If
+-- The steps are a way, so each is enabled in turn, to a state at which the condition holds, and no shorter list of moves leads to one. If
 -- all states that are reached were looked at, no list of moves leads to one; otherwise none that is shorter than the least way of
 -- the last state that was looked at.
 abbrev pub IsExact : {A : Type 0} → Allowed → ConditionValue → ClusterState → Reached A → Type 0
 IsExact {A} allowed when s (Way steps) = record {
   way : IsWay allowed s steps;
-  enabled : AreEnabled s steps;
   there : HoldsAfter when s steps;
   shortest : IsNotReachedIn A allowed when s (length steps);
 }

@@ -1,5 +1,5 @@
 -- Ways: lists of moves from a state, and their order (this project's own rule).
-use Rattle.std.specs.Prelude.{◌≡◌, ◌⊎◌, ℕ, ◌<◌, List, [], ◌∷◌, length, All, AllPairs, Contains}
+use Rattle.std.specs.Prelude.{◌≡◌, ◌≢◌, ◌⊎◌, ℕ, ◌<◌, ◌≤◌, List, [], ◌∷◌, length, All, Any, AllPairs, Contains, Some, slice_get}
 use Rattle.nd_protocol.specs.State.{ClusterState}
 use Rattle.nd_protocol.specs.Steps.{stepped, after}
 use Rattle.nd_protocol.specs.Enabled.{IsEnabled}
@@ -21,10 +21,12 @@ IsWay allowed s (x ∷ xs) = IsMove allowed s x × IsWay allowed (stepped s x) x
 
 -- ---- the order of ways from a state
 
--- in a list, x stands somewhere before y
-abbrev pub StandsBefore : {X : Type 0} → List X → X → X → Type 0
-StandsBefore [] x y = ⊥
-StandsBefore (z ∷ zs) x y = ((z ≡ x) × Contains zs y) ⊎ StandsBefore zs x y
+-- x stands in the list before y stands there for the first time
+pub record StandsBefore {X : Type 0} (xs : List X) (x y : X) : Type 0 where
+  pub place : ℕ
+  pub here : slice_get xs place ≡ Some x
+  pub not_yet : (i : ℕ) → i ≤ place → slice_get xs i ≢ Some y
+  pub later : Contains xs y
 
 -- x stands before y among the moves of the state
 abbrev pub ComesFirst : {A : Type 0} → Allowed → ClusterState → Step A → Step A → Type 0
@@ -41,20 +43,20 @@ IsSooner allowed s (x ∷ xs) (y ∷ ys) = ComesFirst allowed s x y ⊎ ((x ≡ 
 abbrev pub IsLess : {A : Type 0} → Allowed → ClusterState → List (Step A) → List (Step A) → Type 0
 IsLess allowed s xs ys = (length xs < length ys) ⊎ ((length xs ≡ length ys) × IsSooner allowed s xs ys)
 
--- ---- least ways
+-- ---- the states that are reached, each by its least way
 
--- a way from s, and less than every other that leads to the same state
-pub record IsLeastWay {A : Type 0} (allowed : Allowed) (s : ClusterState) (xs : List (Step A)) : Type 0 where
-  pub way : IsWay allowed s xs
-  pub least : (ys : List (Step A)) → IsWay allowed s ys → after s ys ≡ after s xs → (ys ≡ xs) ⊎ IsLess allowed s xs ys
+-- one of these ways leads to the same state as xs, and is xs or less than it
+abbrev pub IsCovered : {A : Type 0} → Allowed → ClusterState → List (List (Step A)) → List (Step A) → Type 0
+IsCovered allowed s ways xs = Any (λ w. (after s w ≡ after s xs) × ((w ≡ xs) ⊎ IsLess allowed s w xs)) ways
 
--- The least ways of the first states that are reached from s: each list is a least way, in order, and every other least way comes
--- after all of them.
+-- The least ways to the first states that are reached from s: ways in order, to different states. Each other way leads to one of
+-- these states and is not less than the way to it that is listed, or comes after all that are listed.
 pub record AreFirst {A : Type 0} (allowed : Allowed) (s : ClusterState) (ways : List (List (Step A))) : Type 0 where
-  pub each : All (IsLeastWay allowed s) ways
+  pub each : All (IsWay allowed s) ways
   pub order : AllPairs (IsLess allowed s) ways
-  pub others : (xs : List (Step A)) → IsLeastWay allowed s xs → Contains ways xs ⊎ All (λ w. IsLess allowed s w xs) ways
+  pub apart : AllPairs (λ v w. after s v ≢ after s w) ways
+  pub others : (xs : List (Step A)) → IsWay allowed s xs → IsCovered allowed s ways xs ⊎ All (λ w. IsLess allowed s w xs) ways
 
--- the list has the least way of each state that is reached from s
+-- each way leads to a state to which one of these leads
 abbrev pub AreAll : {A : Type 0} → Allowed → ClusterState → List (List (Step A)) → Type 0
-AreAll {A} allowed s ways = (xs : List (Step A)) → IsLeastWay allowed s xs → Contains ways xs
+AreAll {A} allowed s ways = (xs : List (Step A)) → IsWay allowed s xs → IsCovered allowed s ways xs

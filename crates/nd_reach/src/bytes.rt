@@ -6,22 +6,14 @@ use nd_paths::Pointstamp;
 use nd_time::Timestamp;
 use std::alloc::{AllocError, Allocator};
 
-<<<<<<< HEAD
-// Numbers below this one are a single byte.
-const ONE: u64 = 252;
-// The first byte of a number that follows in two, four or eight bytes.
-=======
 // The number of bytes of each form after the first.
 pub(crate) const ONE: u64 = 252;
 
->>>>>>> lane-p2
 pub(crate) const TWO: u8 = 252;
 
 pub(crate) const FOUR: u8 = 253;
 
 pub(crate) const EIGHT: u8 = 254;
-// An epoch times this, plus the number of counters, is one number: a time has fewer counters.
-pub(crate) const EPOCH: u64 = 7;
 
 // Appends the form of a number.
 pub(crate) fn put_number<A: Allocator>(bytes: &mut Vec<u8, A>, n: u64) -> Result<(), AllocError>
@@ -60,8 +52,9 @@ pub(crate) fn put_time<A: Allocator>(
 ) -> Result<(), AllocError>
     ensures { OnOk result (bytes.new.items ≡ bytes.old.items ++ time_form time.now) }
 {
+    put_number(bytes, u64::from(time.epoch()))?;
     let counters = time.counters();
-    put_number(bytes, EPOCH * u64::from(time.epoch()) + counters.len() as u64)?;
+    put_number(bytes, counters.len() as u64)?;
     for counter in counters {
         put_number(bytes, u64::from(*counter))?;
     }

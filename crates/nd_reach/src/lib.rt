@@ -6,10 +6,12 @@ mod entries;
 mod fault;
 mod form;
 mod found;
+mod going;
 mod laws;
+mod node;
 mod reached;
 mod search;
-mod walker;
+mod way;
 mod writing;
 
 pub use fault::ReachFault;

@@ -3,6 +3,7 @@ ghost use Rattle.std.specs.Prelude.{◌≡◌, ◌≢◌, ◌<◌, ◌≤◌, �
 ghost use Rattle.nd_map.specs.Counts.{entries as counts_of};
 ghost use Rattle.nd_processor.specs.State.{items_at};
 ghost use Rattle.nd_protocol.specs.State.{queue as queue_in};
+ghost use Rattle.nd_protocol.specs.Fitting.{IsState};
 ghost use Rattle.nd_reach.specs.Bytes.{list};
 ghost use Rattle.nd_reach.specs.Forms.{change_form, form as form_of, in_common, items_form, longer_of, longest, newest_first, processor_form, queue_form, row_form, rows_newest, vertex_form};
 
@@ -225,7 +226,8 @@ fn put_row<A: Allocator + Copy>(
 impl<A: Allocator + Copy> Form<A> {
     // Becomes the form of a cluster's state.
     pub(crate) fn write(&mut self, cluster: &Cluster<A>) -> Result<(), AllocError>
-        ensures { OnOk result (self.new ≡ form_of cluster.now) }
+        ensures form { OnOk result (self.new ≡ form_of cluster.now) }
+        ensures state { IsState cluster.now }
     {
         self.bytes.clear();
         let bytes = &mut self.bytes;
