@@ -9,21 +9,22 @@ use Rattle.nd_cluster.specs.declared.moves.Allowed.{Allowed}
 abbrev pub nothing_allowed : Allowed
 nothing_allowed = record { feeds = false; releases = false }
 
--- the word, and the words that were read before it; none if it is not a word, or was read before
+-- what the words before it let, and this word; none if it is no word, or one of them
 abbrev pub with_word : Allowed → List ℕ → Option Allowed
 with_word old word =
     if bytes_eq word (codes "feed") && not old.feeds then Some (record { feeds = true; releases = old.releases })
     else (if bytes_eq word (codes "release") && not old.releases then Some (record { feeds = old.feeds; releases = true }) else None)
 
--- these words, and those that were read before them
-abbrev pub with_words : Allowed → List Data → Option Allowed
-with_words old [] = Some old
-with_words old (d ∷ ds) = option_and_then (λ new. with_words new ds) (option_and_then (with_word old) (text d))
+-- the same, of a value that must be a text
+abbrev pub with_item : Allowed → Data → Option Allowed
+with_item old d = option_and_then (with_word old) (text d)
 
--- the words of a list of at least one, each once
+-- one word, or two that differ
 abbrev pub allowed_of : List Data → Option Allowed
 allowed_of [] = None
-allowed_of (d ∷ ds) = with_words nothing_allowed (d ∷ ds)
+allowed_of (d ∷ []) = with_item nothing_allowed d
+allowed_of (d ∷ e ∷ []) = option_and_then (λ old. with_item old e) (with_item nothing_allowed d)
+allowed_of (d ∷ e ∷ f ∷ ds) = None
 
 -- the words in the list at the key
 unfoldable pub allowed_at : List ℕ → Data → Option Allowed

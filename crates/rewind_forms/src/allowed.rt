@@ -1,7 +1,7 @@
 //! The words that let users feed or release among the moves.
 ghost use Rattle.std.specs.Prelude.{◌≡◌, map};
 ghost use Rattle.serde_json.specs.View.{view};
-ghost use Rattle.rewind_forms.specs.Allowed.{allowed_at as allowed_in, allowed_of as allowed_from, nothing_allowed, with_word as with_word_of};
+ghost use Rattle.rewind_forms.specs.Allowed.{allowed_at as allowed_in, allowed_of as allowed_from, nothing_allowed, with_word as with_word_of, with_item as with_item_of};
 
 use nd_json::{list_at, text};
 use nd_reach::Allowed;
@@ -30,18 +30,23 @@ fn with_word(old: Allowed, word: &str) -> Option<Allowed>
     }
 }
 
-// Returns the words of a list of at least one, each once.
+// The same, of a value that must be a text.
+fn with_item(old: Allowed, item: &Value) -> Option<Allowed>
+    ensures { result ≡ with_item_of old (view item.now) }
+{
+    let word = text(item)?;
+    with_word(old, word)
+}
+
+// Returns one word, or two that differ.
 fn allowed_of(items: &[Value]) -> Option<Allowed>
     ensures { result ≡ allowed_from (map view items.now) }
 {
-    if items.is_empty() {
-        return None;
+    match items {
+        [only] => with_item(NOTHING, only),
+        [first, second] => with_item(with_item(NOTHING, first)?, second),
+        _ => None,
     }
-    let mut allowed = NOTHING;
-    for item in items {
-        allowed = with_word(allowed, text(item)?)?;
-    }
-    Some(allowed)
 }
 
 // Returns the words in the list at the key.
