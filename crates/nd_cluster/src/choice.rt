@@ -127,10 +127,11 @@ impl<A: Allocator + Copy> Cluster<A> {
         ensures { OnOk result (steps.new.items
             ≡ steps.old.items ++ candidates_if self.now (option_copied only.entry) p) }
     {
-        if may_run(only, p) {
-            for step in self.candidates_of(p) {
-                steps.push(step)?;
-            }
+        if !may_run(only, p) {
+            return Ok(());
+        }
+        for step in self.candidates_of(p) {
+            steps.push(step)?;
         }
         Ok(())
     }
