@@ -22,7 +22,7 @@ use std::alloc::{AllocError, Allocator};
 const MAX_REACHED: u64 = 1_000_000;
 
 /// The most moves that a walk makes from where it begins.
-const MOST_MOVES: u32 = 32;
+const MOST_MOVES: u32 = 128;
 
 /// Why a search ends before all moves of all states were tried.
 #[derive(Clone, Copy, Drop)]
