@@ -141,7 +141,7 @@ module _ {A : Type 0} (tell : FormsTellStates) (q : Wanted) (forms : List (List 
     going_on = added q.allowed q.start one_step h.ways at h.way moves n x h.going next (listed_move (after q.start h.way) q.allowed moves n x h.going.moves_of next) apart
 
     module _ (node : Node A) (made : Record A) (step : made.step ≡ x) (planned : IsPlanned made t) (parent : node.parent ≡ at) (by_move : node.made ≡ Some made)
-        (saved : IfSome node.saved (IsSaved (stepped t x))) where
+        (saved : IfSome node.saved (λ b. IsSaved (stepped t x) b.value)) where
       still_made : (k p : ℕ) (w : List (Step A)) (o : Option (Record A)) → IsMade q.start h.ways k w p o → IsMade q.start (h.ways ++ (h.way ++ x ∷ []) ∷ []) k w p o
       still_made k p w None m = m
       still_made k p w (Some r) m = record {
@@ -165,7 +165,7 @@ module _ {A : Type 0} (tell : FormsTellStates) (q : Wanted) (forms : List (List 
       new_node = record {
         made = subst (λ o. IsMade q.start (h.ways ++ (h.way ++ x ∷ []) ∷ []) (length h.ways) (h.way ++ x ∷ []) node.parent o) (sym by_move)
             (subst (λ p. IsMade q.start (h.ways ++ (h.way ++ x ∷ []) ∷ []) (length h.ways) (h.way ++ x ∷ []) p (Some made)) (sym parent) new_made);
-        saved = subst (λ u. IfSome node.saved (IsSaved u)) leads saved;
+        saved = subst (λ u. IfSome node.saved (λ b. IsSaved u b.value)) leads saved;
       }
 
       found_on : AreFound q.start (h.ways ++ (h.way ++ x ∷ []) ∷ []) (forms ++ form (stepped t x) ∷ []) (nodes ++ node ∷ [])
@@ -256,7 +256,7 @@ module _ {A : Type 0} (q : Wanted) (node : Node A) (made : node.made ≡ None) (
           let also : node ≡ nd = cc (hn) in
           let first : IsNode {A = A} q.start ([] ∷ []) 0 [] node = record {
             made = subst (λ o. IsMade {A = A} q.start ([] ∷ []) 0 [] node.parent o) (sym made) refl;
-            saved = subst (λ o. IfSome o (IsSaved (after {A = A} q.start []))) (sym saved) tt;
+            saved = subst (λ o. IfSome o (λ b. IsSaved (after {A = A} q.start []) b.value)) (sym saved) tt;
           } in
           subst (IsNode q.start ([] ∷ []) 0 w) also (subst (λ w. IsNode q.start ([] ∷ []) 0 w node) same first)
       start_node (suc k) w nd hw hn = absurd (cc (hw))

@@ -1,6 +1,6 @@
 -- Walks to the states that a search has found.
 use Rattle.std.proofs.Common.{◌≡◌, ◌∙◌, ℕ, ◌<◌, ◌≤◌, List, [], ◌∷◌, ◌++◌, length, refl, sym, ap, subst, arith, Option, Some, None}
-use Rattle.std.specs.Prelude.{slice_get, get_or, IfSome}
+use Rattle.std.specs.Prelude.{Box, slice_get, get_or, IfSome}
 use Rattle.std.proofs.lemmas.Option.{slice_get-get_or, slice_get_within}
 use Rattle.nd_protocol.specs.State.{ClusterState}
 use Rattle.nd_protocol.specs.Steps.{stepped, after}
@@ -24,15 +24,15 @@ module _ {A : Type 0} (s : ClusterState) (ways : List (List (Step A))) (forms : 
   fits : IsNode s ways k (get_or ways k []) node
   fits = h.each k (get_or ways k []) node way there
 
-  pub saved_fits : (v : Saved A) → node.saved ≡ Some v → FitsIn s.graph v
+  pub saved_fits : (v : Box (Saved A) A) → node.saved ≡ Some v → FitsIn s.graph v.value
   saved_fits v some =
-      let saved : IfSome (Some v) (IsSaved (after s (get_or ways k []))) = subst (λ o. IfSome o (IsSaved (after s (get_or ways k [])))) some fits.saved in
-      subst (λ g. FitsIn g v) (h.alike k (get_or ways k []) way).graph saved.fits
+      let saved : IfSome (Some v) (λ b. IsSaved (after s (get_or ways k [])) b.value) = subst (λ o. IfSome o (λ b. IsSaved (after s (get_or ways k [])) b.value)) some fits.saved in
+      subst (λ g. FitsIn g v.value) (h.alike k (get_or ways k []) way).graph saved.fits
 
-  pub saved_leads : (v : Saved A) → node.saved ≡ Some v → (w : List (Step A)) → slice_get ways k ≡ Some w → state_in s.graph v ≡ after s w
+  pub saved_leads : (v : Box (Saved A) A) → node.saved ≡ Some v → (w : List (Step A)) → slice_get ways k ≡ Some w → state_in s.graph v.value ≡ after s w
   saved_leads v some w at =
-      let saved : IfSome (Some v) (IsSaved (after s w)) = subst (λ o. IfSome o (IsSaved (after s w))) some (h.each k w node at there).saved in
-      ap (λ g. state_in g v) (sym (h.alike k w at).graph) ∙ saved.value
+      let saved : IfSome (Some v) (λ b. IsSaved (after s w) b.value) = subst (λ o. IfSome o (λ b. IsSaved (after s w) b.value)) some (h.each k w node at there).saved in
+      ap (λ g. state_in g v.value) (sym (h.alike k w at).graph) ∙ saved.value
 
   pub start_leads : node.made ≡ None → (w : List (Step A)) → slice_get ways k ≡ Some w → s ≡ after s w
   unfolding after

@@ -32,7 +32,7 @@ IsMade {A} s ways k w parent (Some r) = record {
 -- the node of the way w, the one at the place k
 pub record IsNode {A : Type 0} (s : ClusterState) (ways : List (List (Step A))) (k : ℕ) (w : List (Step A)) (node : Node A) : Type 0 where
   pub made : IsMade s ways k w node.parent node.made
-  pub saved : IfSome node.saved (IsSaved (after s w))
+  pub saved : IfSome node.saved (λ b. IsSaved (after s w) b.value)
 
 -- a state of a cluster with the same graph and as many processors
 pub record IsAlike (s t : ClusterState) : Type 0 where

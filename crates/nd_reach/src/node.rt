@@ -11,8 +11,8 @@ pub(crate) struct Node<A: Allocator + Copy> {
     pub(crate) parent: usize,
     /// The record of that move; the state in which the search began has none.
     pub(crate) made: Option<Record<A>>,
-    /// What steps change, if it is saved, so that a walk can begin here.
-    pub(crate) saved: Option<Saved<A>>,
+    /// What steps change, if it is saved, so that a walk can begin here; on the heap, so that a node stays small.
+    pub(crate) saved: Option<Box<Saved<A>, A>>,
     /// How many moves lead here from the last state before it at which a walk can begin.
     pub(crate) moves: u32,
 }
@@ -37,7 +37,7 @@ impl<A: Allocator + Copy> Node<A> {
         parent: usize,
         made: Record<A>,
         moves: u32,
-        saved: Option<Saved<A>>,
+        saved: Option<Box<Saved<A>, A>>,
     ) -> Node<A>
         ensures parent { result.parent ≡ parent }
         ensures made { result.made ≡ Some made }

@@ -45,14 +45,17 @@ pub(crate) struct Question<'a, A: Allocator + Copy> {
 
 impl<'a, A: Allocator + Copy> Question<'a, A> {
     // Returns what is saved at a state that so many moves lead to from where a walk begins; none if these are few.
-    fn saved(&self, walker: &Cluster<A>, moves: u32) -> Result<Option<Saved<A>>, AllocError>
-        ensures { IfOk result (λ o. IfSome o (IsSaved walker.now)) }
+    fn saved(&self, walker: &Cluster<A>, moves: u32) -> Result<Option<Box<Saved<A>, A>>, AllocError>
+        ensures { IfOk result (λ o. IfSome o (λ b. IsSaved walker.now b.value)) }
     {
         if moves < MOST_MOVES {
             return Ok(None);
         }
         let saved = walker.saved(self.alloc)?;
-        Ok(Some(saved))
+        let Ok(boxed) = Box::new(self.alloc, saved) else {
+            return Err(AllocError);
+        };
+        Ok(Some(boxed))
     }
 
     // Executes a move, looks at the state to which it leads, and undoes the move.

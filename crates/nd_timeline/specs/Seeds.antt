@@ -1,5 +1,5 @@
 -- The choice by a seed: where among the candidates a run begins (this project's own rule; the numbers are those of SplitMix64).
-use Rattle.std.specs.Prelude.{ℕ, ◌+◌, ◌*◌, ◌/◌, ◌%◌, ◌^◌, List, Option, None, Some, bit_xor}
+use Rattle.std.specs.Prelude.{◌≡◌, ℕ, ◌+◌, ◌*◌, ◌/◌, ◌%◌, ◌^◌, List, Option, None, Some, bit_xor}
 use Rattle.nd_protocol.specs.State.{ClusterState}
 use Rattle.nd_protocol.specs.declared.step.Step.{Step}
 use Rattle.nd_cluster.specs.Choice.{candidates_from, candidates_by}
@@ -29,6 +29,10 @@ stirred_again seed cursor = cut (folded 27 (stirred seed cursor) * 0x94d049bb133
 -- the lot of a seed at a position of the cursor
 unfoldable pub mix : ℕ → ℕ → ℕ
 mix seed cursor = folded 31 (stirred_again seed cursor)
+
+-- the first three lots of the seed 0 are the first outputs of SplitMix64 that its authors give for this seed
+abbrev pub BeginsAsKnown : Type 0
+BeginsAsKnown = (mix 0 0 ≡ 16294208416658607535) × (mix 0 1 ≡ 7960286522194355700) × (mix 0 2 ≡ 487617019471545679)
 
 -- ---- the steps that a run tries
 

@@ -49,7 +49,7 @@ returns-then-holds g c = record {
       let fresh = not_there c.args.found.now.forms.keys _ _ c.in_ok-has.field-0 c.in_ok-has.ensures.found.1 c.if-branch.false (ap form step) in
       let same = ap (λ v. v.items) c.in_ok-has.ensures.nodes in
       let few : length c.args.found.now.nodes.items < c.args.self.now.limit = omega (arith, c.if-len-self.false, c.len.ensures, ap length same) in
-      let saved = subst (λ (u : ClusterState). IfSome c.new-node.result.saved (IsSaved u)) step (subst (λ o. IfSome o (IsSaved c.commit.new.self)) (sym c.new-node.ensures.saved) c.in_ok-saved.ensures) in
+      let saved = subst (λ (u : ClusterState). IfSome c.new-node.result.saved (λ b. IsSaved u b.value)) step (subst (λ o. IfSome o (λ b. IsSaved c.commit.new.self b.value)) (sym c.new-node.ensures.saved) c.in_ok-saved.ensures) in
       let holds = subst (λ (u : ClusterState). Holds u c.args.self.now.when.now) step (c.holds-holds.ensures.0 c.if-holds.true) in
       let hit = is_hit tell (wanted c.args.self.now) c.args.found.now.forms.keys c.args.found.now.nodes.items c.args.at c.args.walker.now moves n c.args.made.step h next state fresh
       c.new-node.result c.args.made refl c.requires.planned c.new-node.ensures.parent c.new-node.ensures.made saved few holds in
@@ -69,7 +69,7 @@ returns-else-holds g c = record {
       let fresh = not_there c.args.found.now.forms.keys _ _ c.in_ok-has.field-0 c.in_ok-has.ensures.found.1 c.if-branch.false (ap form step) in
       let same = ap (λ v. v.items) c.in_ok-has.ensures.nodes in
       let few : length c.args.found.now.nodes.items < c.args.self.now.limit = omega (arith, c.if-len-self.false, c.len.ensures, ap length same) in
-      let saved = subst (λ (u : ClusterState). IfSome c.new-node.result.saved (IsSaved u)) step (subst (λ o. IfSome o (IsSaved c.commit.new.self)) (sym c.new-node.ensures.saved) c.in_ok-saved.ensures) in
+      let saved = subst (λ (u : ClusterState). IfSome c.new-node.result.saved (λ b. IsSaved u b.value)) step (subst (λ o. IfSome o (λ b. IsSaved c.commit.new.self b.value)) (sym c.new-node.ensures.saved) c.in_ok-saved.ensures) in
       let not = not_held c.holds-holds.result _ (λ holds. c.holds-holds.ensures.1 (subst (λ (u : ClusterState). Holds u c.args.self.now.when.now) (sym step) holds)) c.if-holds.false in
       let on = goes_on_added tell (wanted c.args.self.now) c.args.found.now.forms.keys c.args.found.now.nodes.items c.args.at c.args.walker.now moves n c.args.made.step h next state fresh
       c.new-node.result c.args.made refl c.requires.planned c.new-node.ensures.parent c.new-node.ensures.made saved few not in

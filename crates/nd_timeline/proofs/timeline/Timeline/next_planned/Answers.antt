@@ -41,7 +41,7 @@ returns-in-Some-clause-chosen g c =
     let k = c.cluster-cluster.result.now in
     let only = option_copied c.args.only in
     IfOk-weaker c.drawn_planned.result (λ (r : Option (Record g.row.A.Denot)). Chooses k (candidates_by k c.mix.result only) (step_in r)) (λ (r : Option (Record g.row.A.Denot)). Chooses s (tried s c.args.self.now.cursor only c.args.seed) (step_in r))
-    (λ r h. by_lot s k c.args.self.now.cursor c.at-at.result only c.args.seed (step_in r) c.cluster-cluster.ensures.value c.at-at.ensures.value c.in-Some.seed c.mix.result c.in-Some.is c.mix.ensures h)
+    (λ r h. by_lot s k c.args.self.now.cursor c.at-at.result only c.args.seed (step_in r) c.cluster-cluster.ensures.value c.at-at.ensures.value c.in-Some.seed c.mix.result c.in-Some.is c.mix.ensures.value h)
     c.drawn_planned.ensures.chosen
 
 pub returns-in-Some-clause-planned : goal.returns-in-Some-clause-planned
