@@ -18,17 +18,17 @@ from_turn n turn = range_with_len (turn % n) (n - turn % n) ++ range_with_len 0 
 abbrev pub candidates_from : {A : Type 0} → ClusterState → ℕ → Option (List ℕ) → List (Step A)
 candidates_from s turn only = candidates_on s only (from_turn (length s.processors) turn)
 
--- ---- a place among the candidates
+-- ---- beginning at an index
 
--- a list from the place j to its end, and then its items before j
+-- a list from index j to its end, and then the items before index j
 abbrev pub turned_to : {X : Type 0} → ℕ → List X → List X
 turned_to j xs = drop j xs ++ take j xs
 
--- these steps, beginning with the place that the number `lot` has modulo their count
+-- these steps, beginning at the index `lot` modulo their number
 abbrev pub turned_by : {A : Type 0} → ℕ → List (Step A) → List (Step A)
 turned_by lot xs = turned_to (lot % length xs) xs
 
--- the candidates of the processors that a run goes through, beginning with the place of a lot
+-- the candidates of the processors that a run goes through, beginning at the index of a lot
 abbrev pub candidates_by : {A : Type 0} → ClusterState → ℕ → Option (List ℕ) → List (Step A)
 candidates_by s lot only = turned_by lot (candidates_among s only)
 

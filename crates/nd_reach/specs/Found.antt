@@ -18,8 +18,8 @@ pub record AreFound (found : FoundValue) : Type 0 where
   pub once : AllPairs (λ f g. f ≢ g) found.forms
   pub each : length found.origins ≡ length found.forms
 
--- a state was found as the one to which a move of an earlier one leads: the move at the origin's place among the moves of the
--- state at the origin's parent
+-- a state was found as the one to which a move of an earlier one leads: the move at the index `place` in the moves of the
+-- state at the index `parent`
 abbrev pub ComesFrom : (A : Type 0) → Allowed → List ClusterState → ClusterState → Origin → Type 0
 ComesFrom A allowed states t o =
     (s : ClusterState) × (moves : List (Step A)) × (x : Step A)

@@ -10,7 +10,9 @@ use std::alloc::{AllocError, Allocator};
 const ONE: u64 = 252;
 // The first byte of a number that follows in two, four or eight bytes.
 pub(crate) const TWO: u8 = 252;
+
 pub(crate) const FOUR: u8 = 253;
+
 pub(crate) const EIGHT: u8 = 254;
 // An epoch times this, plus the number of counters, is one number: a time has fewer counters.
 pub(crate) const EPOCH: u64 = 7;
@@ -53,7 +55,10 @@ pub(crate) fn put_time<A: Allocator>(
     ensures { OnOk result (bytes.new.items ≡ bytes.old.items ++ time_form time.now) }
 {
     let counters = time.counters();
-    put_number(bytes, EPOCH * u64::from(time.epoch()) + counters.len() as u64)?;
+    put_number(
+        bytes,
+        EPOCH * u64::from(time.epoch()) + counters.len() as u64,
+    )?;
     for counter in counters {
         put_number(bytes, u64::from(*counter))?;
     }

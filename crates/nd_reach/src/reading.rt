@@ -17,10 +17,7 @@ use std::alloc::{AllocError, Allocator};
 // ---- a processor
 
 // Removes the tokens and the requests with which a processor starts.
-fn emptied<A: Allocator + Copy>(
-    alloc: A,
-    graph: &Graph<A>,
-) -> Result<Processor<A>, AllocError>
+fn emptied<A: Allocator + Copy>(alloc: A, graph: &Graph<A>) -> Result<Processor<A>, AllocError>
     ensures { IfOk result (λ q. q ≡ record idle { items = replicate (length graph.now.vertices) none }) }
 {
     let mut processor = Processor::start(alloc, graph)?;

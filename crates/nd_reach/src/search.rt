@@ -7,7 +7,7 @@ use crate::form::Form;
 use crate::found::{Found, Origin};
 use crate::reading::go_to;
 use crate::way::way_to;
-use crate::{Allowed, Reached, ReachFault};
+use crate::{Allowed, ReachFault, Reached};
 use nd_breaks::Condition;
 use nd_cluster::{Cluster, Record};
 use std::alloc::{AllocError, Allocator};
