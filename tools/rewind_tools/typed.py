@@ -23,8 +23,8 @@ SHOWN = {
     "small": "P", "port": "PORT", "whole": "N", "signed": "N", "vertex": "VERTEX", "edge": "EDGE",
     "place": "LOCATION", "time": "TIME",
     "point": "LOCATION TIME", "points": "LOCATION TIME ...", "values": "VALUE ...",
-    "next": "|".join([*NEXTS, "to N"]), "when": "CONDITION", "processors": "P ...", "users": "feed|release ...",
-    "joint": "and|or",
+    "next": "|".join([*NEXTS, "to N"]), "when": "CONDITION", "processors": "P ...",
+    "users": "feed|release ...", "joint": "and|or",
 }  # fmt: skip
 KEYS_SHOWN = {"lo": "FROM", "hi": "TO", "workers": "THREADS", "value": "VALUE"}
 # The order in which the values of a condition are typed, and when each holds.
