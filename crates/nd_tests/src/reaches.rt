@@ -85,7 +85,11 @@ fn search<A: Allocator + Copy>(
 ) -> Option<()> {
     let (_, allowed, limit, wanted) = row;
     let found = reach(alloc, cluster, *allowed, when, *limit).ok()?;
-    if is_found(&found, wanted) { Some(()) } else { None }
+    if is_found(&found, wanted) {
+        Some(())
+    } else {
+        None
+    }
 }
 
 /// Returns how many requests of the search of a row were refused before it met none.
