@@ -32,6 +32,7 @@ KINDS = {
     "unbreak": "remove a breakpoint", "state": "the complete state",
     "why": "why a processor does not consider a time finished",
     "turns": "where a condition begins and ceases to hold",
+    "reach": "the fewest steps after which a condition holds, or that there are none",
     "search": "the first position at which a condition holds",
     "frontier": "the frontier of a view, or the times that can still arrive",
     "passed": "whether a view has passed a time",

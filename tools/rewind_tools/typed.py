@@ -13,17 +13,17 @@ Values stand in the order of the grammar's keys. A time is its numbers with comm
 alone. NotTyped says what is missing or wrong, in words."""
 import shlex
 
-from rewind_tools.script import ATOMS, FORMS, MOST_LITERALS, NEXTS, OPTIONAL
+from rewind_tools.script import ATOMS, FORMS, MOST_LITERALS, NEXTS, OPTIONAL, USERS
 
 JOINTS = {"and": "all", "or": "any"}
 # The keys that are typed by their own name, with the value after it.
-MARKED = {"send": ["at", "dest"], "release": ["to"], "run": ["only"]}
+MARKED = {"send": ["at", "dest"], "release": ["to"], "run": ["only", "seed"], "reach": ["with"]}
 # What stands for a kind of value in the form that help shows, and under some keys in place of that.
 SHOWN = {
     "small": "P", "port": "PORT", "whole": "N", "signed": "N", "vertex": "VERTEX", "edge": "EDGE",
     "place": "LOCATION", "time": "TIME",
     "point": "LOCATION TIME", "points": "LOCATION TIME ...", "values": "VALUE ...",
-    "next": "|".join([*NEXTS, "to N"]), "when": "CONDITION", "processors": "P ...",
+    "next": "|".join([*NEXTS, "to N"]), "when": "CONDITION", "processors": "P ...", "users": "feed|release ...",
     "joint": "and|or",
 }  # fmt: skip
 KEYS_SHOWN = {"lo": "FROM", "hi": "TO", "workers": "THREADS", "value": "VALUE"}
@@ -114,6 +114,13 @@ class Words:
         self.may_follow("processors")
         return found
 
+    def users(self):
+        """The words that let users feed or release."""
+        found = [self.take("users")]
+        while self.words and self.words[0] in USERS:
+            found.append(self.words.pop(0))
+        return found
+
     def next(self):
         word = self.take("next")
         return {"to": number(self.take("epoch"))} if word == "to" else word
@@ -149,6 +156,7 @@ READERS = {
     "points": Words.points,
     "values": Words.while_numbers,
     "processors": Words.processors,
+    "users": Words.users,
     "when": Words.condition,
     "next": Words.next,
 }
