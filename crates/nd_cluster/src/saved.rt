@@ -22,11 +22,7 @@ pub struct Saved<A: Allocator + Copy = Global> {
 
 impl<A: Allocator + Copy> Saved<A> {
     /// Returns what is saved of a cluster with these processors, views and queues.
-    pub fn new(
-        processors: Vec<Processor<A>, A>,
-        views: Vec<View<A>, A>,
-        mesh: Mesh<A>,
-    ) -> Saved<A>
+    pub fn new(processors: Vec<Processor<A>, A>, views: Vec<View<A>, A>, mesh: Mesh<A>) -> Saved<A>
         ensures processors { result.processors.items ≡ processors.items }
         ensures views { result.views.items ≡ views.items }
         ensures mesh { result.mesh ≡ mesh }

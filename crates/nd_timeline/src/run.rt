@@ -39,7 +39,7 @@ impl<A: Allocator + Copy> Timeline<A> {
         ensures planned { IfOk result (λ r. IfSome r (λ r. IsPlanned r (cluster_of self.now))) }
         ensures none { IfOk result (λ r. IsNone r
             ↔ AreRefused {A = A} (cluster_of self.now)
-                (candidates_among (cluster_of self.now) (option_copied only.entry))) }
+            (candidates_among (cluster_of self.now) (option_copied only.entry))) }
     {
         let at = self.at();
         match seed {

@@ -8,8 +8,8 @@ ghost use Rattle.rewind_answers.specs.Answers.{QueryReply, BeforeReply, ViewRepl
 
 use crate::ahead::{answer_candidates, answer_frontier_at};
 use crate::answer::cluster;
-use crate::reached::answer_reach;
 use crate::kept::{answer_effect, answer_export, answer_step};
+use crate::reached::answer_reach;
 use crate::why::{answer_changes, answer_turns, answer_why, answer_why_before};
 use nd_cluster::Cluster;
 use nd_history::{OpenGate, SearchFault, search_in};

@@ -9,11 +9,7 @@ use rewind_forms::{NoNames, Reach, object, text_of};
 use std::alloc::{AllocError, Global};
 
 // Replies with an answer.
-fn tell_reached(
-    alloc: Global,
-    cluster: &Cluster,
-    reached: &Reached,
-) -> Result<Vec<u8>, AllocError>
+fn tell_reached(alloc: Global, cluster: &Cluster, reached: &Reached) -> Result<Vec<u8>, AllocError>
     ensures reply { IfOk result (λ t.
         TellsOne (λ v. v ≡ reached_data cluster.now.graph reached.now) t.items) }
 {
