@@ -1,6 +1,8 @@
 //! A cluster's state, read from its form.
-ghost use Rattle.std.specs.Prelude.{◌≡◌, ◌<◌, IfOk, OnOk, length};
-ghost use Rattle.nd_protocol.specs.State.{ClusterState, idle};
+ghost use Rattle.std.specs.Prelude.{◌≡◌, ◌<◌, IfOk, OnOk, length, replicate};
+ghost use Rattle.nd_map.specs.Counts.{none};
+ghost use Rattle.nd_processor.specs.State.{idle};
+ghost use Rattle.nd_protocol.specs.State.{ClusterState};
 ghost use Rattle.nd_reach.specs.Bytes.{Reads, list};
 ghost use Rattle.nd_reach.specs.Forms.{change_form, form as form_of, processor_form};
 ghost use Rattle.nd_reach.specs.Reading.{ChangeFits, IsStateOf, ProcessorIsOf};

@@ -1,9 +1,11 @@
 //! The form of a cluster's state, written part by part.
-ghost use Rattle.std.specs.Prelude.{◌≡◌, ◌<◌, ◌≤◌, ◌++◌, OnOk, length, map, reverse};
+ghost use Rattle.std.specs.Prelude.{◌≡◌, ◌<◌, ◌≤◌, ◌++◌, OnOk, drop, length, map, reverse};
 ghost use Rattle.std.specs.List.{flat_map};
 ghost use Rattle.std.specs.FinMap as fin;
 ghost use Rattle.nd_map.specs.Counts.{entries as counts_of};
 ghost use Rattle.nd_delta.specs.Delta.{entries as entries_of};
+ghost use Rattle.nd_mesh.specs.Mesh.{row};
+ghost use Rattle.nd_processor.specs.State.{items_at};
 ghost use Rattle.nd_protocol.specs.State.{processor as processor_in, queue as queue_in, view as view_in};
 ghost use Rattle.nd_reach.specs.Bytes.{list, point};
 ghost use Rattle.nd_reach.specs.Forms.{change_form, form as form_of, in_common, items_form, longest, processor_form, queue_form, record_form, row_form, sink_form, token_form, vertex_form};
