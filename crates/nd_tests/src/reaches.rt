@@ -5,7 +5,7 @@ use crate::opened::only;
 use crate::timelines::memory::Heap;
 use nd_breaks::{Atom, Condition};
 use nd_cluster::{Allowed, Cluster, Next};
-use nd_examples::{HELD, LINE, Script, Told, point, reach as cluster_of, start, step_of};
+use nd_examples::{HELD, LINE, Script, Told, point, reach as cluster_of, start};
 use nd_reach::{ReachFault, Reached, reach};
 use nd_testing::{Refusing, in_turn};
 use std::alloc::{Allocator, Global};
