@@ -2,10 +2,10 @@
 //! meets the refusal returns out of memory. It only reads the cluster, so the next search begins at the same state.
 
 use crate::opened::only;
-use crate::timelines::memory::{Heap, ONE};
+use crate::timelines::memory::Heap;
 use nd_breaks::{Atom, Condition};
 use nd_cluster::{Allowed, Cluster, Next};
-use nd_examples::{HELD, LINE, Script, Told, make, point, reach as cluster_of, start, step_of};
+use nd_examples::{HELD, LINE, Script, Told, point, reach as cluster_of, start};
 use nd_reach::{ReachFault, Reached, reach};
 use nd_testing::{Refusing, in_turn};
 use std::alloc::{Allocator, Global};
@@ -37,6 +37,9 @@ const RELEASES: Allowed = Allowed {
     releases: true,
 };
 
+/// A record on an edge.
+const FED: Script = (LINE, 1, &[Told::Feed(0, "a", &[5], Next::Close)]);
+
 /// A processor that holds a capability, and has nothing else to do.
 const HOLDING: Script = (
     HELD,
@@ -51,7 +54,7 @@ const HOLDING: Script = (
 );
 
 static ROWS: [Row; 6] = [
-    (ONE, NONE, 1000, Wanted::Way(3)),
+    (FED, NONE, 1000, Wanted::Way(3)),
     ((LINE, 1, &[]), NONE, 10, Wanted::Nowhere(1, true)),
     ((LINE, 1, &[]), FEEDS, 10, Wanted::Way(3)),
     ((LINE, 1, &[]), FEEDS, 1, Wanted::Nowhere(1, false)),
@@ -108,35 +111,6 @@ fn searches_out_of_memory(rt: HostRuntime) {
         assert!(rt; matches!(count, Some(n) if n > 0), "in row {i}");
         assert!(rt; heap.live() == 0, "in row {i}");
     }
-}
-
-/// Returns a cluster whose one queue has `count` changes, each of a feed of nothing.
-fn queued<A: Allocator + Copy>(json: Global, alloc: A, count: u32) -> Option<Cluster<A>> {
-    let mut cluster = start(json, alloc, LINE, 1)?;
-    for _ in 0..count {
-        for told in &[Told::Feed(0, "a", &[], Next::Next), Told::All(0)] {
-            let step = step_of(alloc, cluster.graph(), told)?;
-            make(&mut cluster, &step)?;
-        }
-    }
-    Some(cluster)
-}
-
-/// The search whose way is 34 receives: more than a walk makes from where it begins.
-static FAR: Row = ((LINE, 1, &[]), NONE, 100, Wanted::Way(34));
-
-/// Returns how many of its requests were refused before it met none.
-fn refused_far<A: Allocator + Copy>(heap: &Heap, json: Global, alloc: A) -> Option<u64> {
-    let cluster = queued(json, alloc, 34)?;
-    let when = passed(&cluster, 33)?;
-    in_turn!(heap: search(alloc, &cluster, &when, &FAR))
-}
-
-#[test]
-fn far_searches_out_of_memory(rt: HostRuntime) {
-    let heap = Refusing::new(rt.alloc());
-    assert!(rt; matches!(refused_far(&heap, rt.alloc(), &heap), Some(n) if n > 34));
-    assert!(rt; heap.live() == 0);
 }
 
 /// Returns whether a search of so many states is refused before it begins, without a request for memory.
