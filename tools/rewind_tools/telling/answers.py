@@ -345,7 +345,8 @@ def reached(teller, value, reply):
         return [f"{looked}; {all_or_not}"]
     if not steps:
         return ["it holds already"]
-    first, told = f"after {counted(len(steps), 'step')}, and no fewer", map(command_words, steps[:MOST_STEPS])
+    first = f"after {counted(len(steps), 'step')}, and no fewer"
+    told = map(command_words, steps[:MOST_STEPS])
     return [first, *told, *([f"... ({len(steps)} in all)"] if len(steps) > MOST_STEPS else [])]
 
 
