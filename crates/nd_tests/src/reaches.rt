@@ -5,7 +5,7 @@ use crate::opened::only;
 use crate::timelines::memory::Heap;
 use nd_breaks::{Atom, Condition};
 use nd_cluster::{Allowed, Cluster, Next};
-use nd_examples::{HELD, LINE, Script, Told, point, reach as cluster_of, start};
+use nd_examples::{HELD, LINE, Told, point, reach as cluster_of, start};
 use nd_reach::{ReachFault, Reached, reach};
 use nd_testing::{Refusing, in_turn};
 use std::alloc::{Allocator, Global};
@@ -19,8 +19,9 @@ enum Wanted {
     Nowhere(u64, bool),
 }
 
-/// A script, the steps of users that are allowed, how many states are looked at, and what a search returns.
-type Row = (Script, Allowed, u64, Wanted);
+/// A graph and steps of one processor, the steps of users that are allowed, how many states are looked at, and what a search
+/// returns.
+type Row = (&'static str, &'static [Told], Allowed, u64, Wanted);
 
 const NONE: Allowed = Allowed {
     feeds: false,
@@ -37,29 +38,27 @@ const RELEASES: Allowed = Allowed {
     releases: true,
 };
 
+const NOTHING: &[Told] = &[];
+
 /// A record on an edge.
-const FED: Script = (LINE, 1, &[Told::Feed(0, "a", &[5], Next::Close)]);
+const FED: &[Told] = &[Told::Feed(0, "a", &[5], Next::Close)];
 
 /// A processor that holds a capability, and has nothing else to do.
-const HOLDING: Script = (
-    HELD,
-    1,
-    &[
-        Told::Feed(0, "a", &[7], Next::Close),
-        Told::Take(0, "ah", &[0], 7),
-        Told::Take(0, "hz", &[0], 7),
-        Told::All(0),
-        Told::Receive(0, 0),
-    ],
-);
+const HOLDING: &[Told] = &[
+    Told::Feed(0, "a", &[7], Next::Close),
+    Told::Take(0, "ah", &[0], 7),
+    Told::Take(0, "hz", &[0], 7),
+    Told::All(0),
+    Told::Receive(0, 0),
+];
 
 static ROWS: [Row; 6] = [
-    (FED, NONE, 1000, Wanted::Way(3)),
-    ((LINE, 1, &[]), NONE, 10, Wanted::Nowhere(1, true)),
-    ((LINE, 1, &[]), FEEDS, 10, Wanted::Way(3)),
-    ((LINE, 1, &[]), FEEDS, 1, Wanted::Nowhere(1, false)),
-    (HOLDING, NONE, 1000, Wanted::Nowhere(1, true)),
-    (HOLDING, RELEASES, 1000, Wanted::Way(3)),
+    (LINE, FED, NONE, 1000, Wanted::Way(3)),
+    (LINE, NOTHING, NONE, 10, Wanted::Nowhere(1, true)),
+    (LINE, NOTHING, FEEDS, 10, Wanted::Way(3)),
+    (LINE, NOTHING, FEEDS, 1, Wanted::Nowhere(1, false)),
+    (HELD, HOLDING, NONE, 1000, Wanted::Nowhere(1, true)),
+    (HELD, HOLDING, RELEASES, 1000, Wanted::Way(3)),
 ];
 
 /// Returns the condition that the view of processor 0 has passed an epoch at z.
@@ -86,7 +85,7 @@ fn search<A: Allocator + Copy>(
     when: &Condition,
     row: &Row,
 ) -> Option<()> {
-    let (_, allowed, limit, wanted) = row;
+    let (_, _, allowed, limit, wanted) = row;
     let found = reach(alloc, cluster, *allowed, when, *limit).ok()?;
     if is_found(&found, wanted) {
         Some(())
@@ -97,8 +96,8 @@ fn search<A: Allocator + Copy>(
 
 /// Returns how many requests of the search of a row were refused before it met none.
 fn refused<A: Allocator + Copy>(heap: &Heap, json: Global, alloc: A, row: &Row) -> Option<u64> {
-    let ((text, n, steps), _, _, _) = row;
-    let cluster = cluster_of(json, alloc, text, *n, steps)?;
+    let (text, steps, _, _, _) = row;
+    let cluster = cluster_of(json, alloc, text, 1, steps)?;
     let when = passed(&cluster, 0)?;
     in_turn!(heap: search(alloc, &cluster, &when, row))
 }
