@@ -64,7 +64,8 @@ def nowhere(reply, limit):
     """That no steps were found, and how many states may be looked at next."""
     states = counted(reply["states"], "state")
     if reply["whole"]:
-        return {"steps": None, "words": f"by no steps: {states} can be reached, and it is finished in none of them; {NOT_MOVES}"}
+        words = f"by no steps: {states} can be reached, and it is finished in none of them; {NOT_MOVES}"
+        return {"steps": None, "words": words}
     more = limit * 10 if limit * 10 <= MOST_STATES else None
     words = f"by no short list of steps: it is finished in none of the first {states} that can be reached"
     return {"steps": None, "words": f"{words}; {NOT_MOVES}", "more": more}
