@@ -39,7 +39,8 @@ def offered(prompt, words):
     word = LIKE.get(words[0], words[0])
     if word not in FORMS:
         return []
-    return {it for pair in wanted([word, *words[1:]], prompt.defaults(word)) for it in of_kind(prompt, *pair)}
+    kinds = wanted([word, *words[1:]], prompt.defaults(word))
+    return {it for pair in kinds for it in of_kind(prompt, *pair)}
 
 
 def of_kind(prompt, of, kind):

@@ -32,7 +32,7 @@ KINDS = {
     "unbreak": "remove a breakpoint", "state": "the complete state",
     "why": "why a processor does not consider a time finished",
     "turns": "where a condition begins and ceases to hold",
-    "reach": f"the fewest steps to a condition, feeds and releases among them; N states, {MOST_STATES} if not given",
+    "reach": f"the fewest steps to a condition, with feeds and releases; N states, or {MOST_STATES}",
     "search": "the first position at which a condition holds",
     "frontier": "the frontier of a view, or the times that can still arrive",
     "passed": "whether a view has passed a time",

@@ -76,7 +76,8 @@ def rounds(session, graph, reply):
     if the counter of a loop rose by its last steps. None if none did."""
     last = reply["at"]
     first = max(1, last - min(reply["ran"], LOOKED_BACK) + 1)
-    steps = [it["step"] for it in session.ask_all([{"do": "step", "to": it} for it in range(first, last + 1)])]
+    replies = session.ask_all([{"do": "step", "to": it} for it in range(first, last + 1)])
+    steps = [it["step"] for it in replies]
     back = {
         name: it["to"]
         for name, it in graph.edges.items()
@@ -92,6 +93,6 @@ def rounds(session, graph, reply):
         return None
     _, (vertex, *outer), counter = max(risen)
     return (
-        f"a record goes round: {plain(at(vertex, [*outer, counter]))}; ask next what a run by lot does, which"
-        ' lets other steps have their turn, or "How can this finish?" of a point past the loop'
+        f"a record goes round: {plain(at(vertex, [*outer, counter]))}; ask next what a run by lot does,"
+        ' which lets other steps have their turn, or "How can this finish?" of a point past the loop'
     )
