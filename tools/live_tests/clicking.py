@@ -472,6 +472,7 @@ class Finishing(unittest.TestCase):
             page.click(page.find("#go-on"))
             page.at(201, "the run by lot")
             page.says("points", "mf\u00a0(0,25)")
+            page.says("said", 'ask next "How can this finish?" of a point past the loop')
             picture(page, "by-lot")
             page.fill("#seed", "18446744073709551616")
             page.click(page.find("#run"))

@@ -71,7 +71,7 @@ def nowhere(reply, limit):
     return {"steps": None, "words": f"{words}; {NOT_MOVES}", "more": more}
 
 
-def rounds(session, graph, reply):
+def rounds(session, graph, reply, by_lot):
     """Of a run that stopped at its limit, the words that a record goes round in a loop and what to ask next:
     if the counter of a loop rose by its last steps. None if none did."""
     last = reply["at"]
@@ -92,7 +92,8 @@ def rounds(session, graph, reply):
     if not risen:
         return None
     _, (vertex, *outer), counter = max(risen)
+    turns = "" if by_lot else "what a run by lot does, which lets other steps have their turn, or "
     return (
-        f"a record goes round: {plain(at(vertex, [*outer, counter]))}; ask next what a run by lot does,"
-        ' which lets other steps have their turn, or "How can this finish?" of a point past the loop'
+        f"a record goes round: {plain(at(vertex, [*outer, counter]))}; ask next {turns}"
+        '"How can this finish?" of a point past the loop'
     )

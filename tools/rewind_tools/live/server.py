@@ -125,7 +125,7 @@ class Live:
         """What else there is to say of a run that stopped at its limit: that a record goes round."""
         if value["do"] != "run" or reply.get("stop") != "limit":
             return []
-        said = finishing.rounds(self.session, self.teller.graph, reply)
+        said = finishing.rounds(self.session, self.teller.graph, reply, "seed" in value)
         return [said] if said else []
 
     def bring_back(self, asked):
