@@ -2,7 +2,7 @@
 import json
 import unittest
 
-from live_tests.served import Served, chain, feed, lines_for, of_class, opening_of, stuck
+from live_tests.served import Served, around, chain, feed, lines_for, of_class, opening_of, stuck
 from rewind_tools import runs
 from rewind_tools.live.server import Live
 from rewind_tools.session import Session
@@ -68,6 +68,53 @@ class Stuck(unittest.TestCase):
     def test_wrong_time(self):
         why = self.live.asked("why", {"q": 0, "at": "out", "time": [0, 0]})
         self.assertEqual(why["error"], "(0,0) is no time of out, where a time is the epoch alone")
+
+
+class Finishing(unittest.TestCase):
+    """By which steps a point can still finish."""
+
+    def test_of_a_notification(self):
+        """What a notification waits for, with the notification as the last step."""
+        with stuck() as live:
+            shown = live.asked("picture", {})["picture"]["candidates"]["items"]
+            waiting = next(it for it in shown if it["kind"] == "notice" and it["p"] == 0)
+            told = live.asked("finish", {**waiting["ask"], "then": waiting["line"]})
+            self.assertEqual([it["words"] for it in told["steps"]], [
+                "processor 1 feeds nothing into words and goes on to the next epoch",
+                "processor 1 broadcasts all that is unsent",
+                "processor 0 receives the first change on its way from processor 1",
+                "processor 0 runs the notification of total (0)",
+            ])  # fmt: skip
+            self.assertTrue(told["words"].startswith("by 4 steps"), told["words"])
+            self.assertEqual(told["steps"][0]["what"], "from outside: the input goes on")
+            for it in told["steps"]:
+                done = live.command(json.loads(it["line"]))
+                self.assertFalse(done["refused"], done["words"])
+
+    def test_of_a_point(self):
+        """None among few states, with how many to look at next; and no fault for a point that is none."""
+        with stuck() as live:
+            ask = {"q": 0, "at": "out", "time": [0]}
+            told = live.asked("finish", {**ask, "limit": 20})
+            self.assertEqual((told["steps"], told["more"]), (None, 200))
+            self.assertIn("the first 20 states", told["words"])
+            self.assertIn("error", live.asked("finish", {**ask, "time": [0, 0]}))
+
+    def test_by_no_steps(self):
+        """No record comes from a closed input, so a sink's time that is finished needs no step."""
+        graph, _ = chain(1, 0, 0)
+        with Served([json.dumps(graph)]) as live:
+            told = live.asked("finish", {"q": 0, "at": "v0", "time": [0]})
+            self.assertEqual([it["kind"] for it in told["steps"]], ["feed", "broadcast", "receive"])
+
+    def test_in_a_loop(self):
+        """A run that stops while a record goes round says so, in turn alone."""
+        with Served(around()) as live:
+            ran = live.command({"do": "run", "limit": 200})
+            self.assertIn("a record goes round: f (0,99)", ran["words"][-1].replace("\u00a0", " "))
+            live.command({"do": "jump", "to": 1})
+            few = live.command({"do": "run", "limit": 3})
+            self.assertNotIn("goes round", " ".join(few["words"]))
 
 
 class Discarded(unittest.TestCase):

@@ -6,8 +6,10 @@ import time
 import unittest
 
 from live_tests.served import (
-    CHOOSE, POSITION, TEXT, Page, Served, ServedBy, Tunnel, chain, feed, needs_browser, opening_of, stuck,
+    CHOOSE, POSITION, TEXT, Page, Served, ServedBy, Tunnel, around, chain, feed, needs_browser, opening_of,
+    stuck,
 )  # fmt: skip
+from live_tests.looking import picture
 from rewind_tools import runs
 from rewind_tools.testing import TOP
 
@@ -413,6 +415,68 @@ class Asking(unittest.TestCase):
             page.fill("#why-form input", "x")
             page.press("enter")
             page.says("said", '"x" is no whole number')
+
+
+@needs_browser
+class Finishing(unittest.TestCase):
+    """How a point can still finish, and runs by lot."""
+
+    def test_steps_of_a_notification(self):
+        """Click the button of a notification that waits, read the steps, and execute them all."""
+        with stuck() as live, Page(live) as page:
+            page.at(11, "the page")
+            page.press("left")
+            page.at(10, "a step back")
+            page.press("right")
+            page.at(11, "the end")
+            page.click_text("#candidates button", "How can this finish?")
+            page.says("why", "by 4 steps, and no fewer")
+            page.says("why", "processor 1 feeds nothing into words")
+            picture(page, "finish")
+            page.click_text("#why button", "execute these 4 steps")
+            page.at(15, "the steps")
+            page.says("said", "executed 4 steps")
+            page.says("effect", "runs the notification of total")
+
+    def test_steps_that_discard(self):
+        """The page asks before the steps discard others."""
+        with stuck() as live, Page(live) as page:
+            page.at(11, "the page")
+            page.press("home")
+            page.at(0, "the start")
+            page.click(page.find(".graph .vertex[data-place='0']"))
+            page.says("why", "does not know that words (0) is finished")
+            page.click_text("#why button", "How can this finish?")
+            page.says("why", "no fewer")
+            page.click_text("#why button", "execute these")
+            page.wait(lambda: page.run(WARNS), "the warning")
+            page.click(page.find("#go-on"))
+            page.says("said", "11 kept steps discarded")
+
+    def test_by_lot(self):
+        """A run in turn goes round in a loop and says so; one by lot takes the seed that is typed."""
+        with Served(around()) as live, Page(live) as page:
+            page.at(1, "the page")
+            self.assertTrue(page.run("return by('seed').parentElement.hidden"))
+            page.fill("#limit", "200")
+            page.click(page.find("#run"))
+            page.says("said", "a record goes round: f (0,99)")
+            page.press("home")
+            page.at(0, "the start")
+            page.press("right")
+            page.at(1, "the feed")
+            page.run("by('choice').selectedIndex = 1; by('choice').dispatchEvent(new Event('change'))")
+            self.assertFalse(page.run("return by('seed').parentElement.hidden"))
+            page.click(page.find("#run"))
+            page.wait(lambda: page.run(WARNS), "the warning")
+            page.click(page.find("#go-on"))
+            page.at(201, "the run by lot")
+            page.says("points", "mf\u00a0(0,25)")
+            page.says("said", 'ask next "How can this finish?" of a point past the loop')
+            picture(page, "by-lot")
+            page.fill("#seed", "18446744073709551616")
+            page.click(page.find("#run"))
+            page.says("said", "by lot: which seed? 18446744073709551616 is not between 0 and")
 
 
 @needs_browser

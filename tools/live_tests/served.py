@@ -136,6 +136,21 @@ def chain(length, feeds, values):
     return {"vertices": vertices, "edges": edges}, [feed([*range(at, at + values)]) for at in range(feeds)]
 
 
+def around():
+    """The lines of a graph with a loop in which a record of one input goes round for ever."""
+    vertices = [
+        {"name": "a", "op": "input", "depth": 0},
+        {"name": "i", "op": "ingress", "depth": 0},
+        {"name": "m", "op": "add", "k": 0, "depth": 1},
+        {"name": "f", "op": "feedback", "depth": 1},
+        {"name": "e", "op": "egress", "depth": 1},
+        {"name": "z", "op": "sink", "depth": 0},
+    ]
+    ends = ("ai", "im", "mf", "fm", "me", "ez")
+    edges = [{"name": it, "from": it[0], "port": 0, "to": it[1], "route": "local"} for it in ends]
+    return [json.dumps({"vertices": vertices, "edges": edges}), json.dumps(feed([1], next="close"))]
+
+
 class Tunnel(socketserver.ThreadingTCPServer):
     """Another port of this machine that leads to a server, as that of 'ssh -L' does."""
 

@@ -2,7 +2,7 @@
 import glob
 import os
 
-from rewind_tools.script import ATOMS, FORMS, HOLDING, NEXTS, STEPS
+from rewind_tools.script import ATOMS, FORMS, HOLDING, NEXTS, USERS
 from rewind_tools.typed import JOINTS, NotTyped, wanted, words_of_line
 
 # The prompt's own words that take the values of a word of the script.
@@ -13,7 +13,7 @@ OPS = {
     "sink": ["sink"],
 }  # fmt: skip
 # The words that mark what follows them, or stand alone.
-MARKS = ("to", "only", "at", "dest", "keep", "before")
+MARKS = ("to", "only", "at", "dest", "keep", "before", "seed", "limit", *USERS)
 TAKES_FILE = ("load", "save")
 
 
@@ -39,8 +39,8 @@ def offered(prompt, words):
     word = LIKE.get(words[0], words[0])
     if word not in FORMS:
         return []
-    defaults = {} if word in STEPS else prompt.defaults()
-    return {it for pair in wanted([word, *words[1:]], defaults) for it in of_kind(prompt, *pair)}
+    pairs = wanted([word, *words[1:]], prompt.defaults(word))
+    return {it for pair in pairs for it in of_kind(prompt, *pair)}
 
 
 def of_kind(prompt, of, kind):
@@ -54,7 +54,7 @@ def of_kind(prompt, of, kind):
         return [kind]
     fixed = {
         "edge": graph.edges, "place": graph.order, "points": graph.order, "point": graph.order,
-        "next": [*NEXTS, "to"], "when": [*ATOMS, "not"], "joint": JOINTS,
+        "next": [*NEXTS, "to"], "when": [*ATOMS, "not"], "joint": JOINTS, "users": USERS,
     }  # fmt: skip
     return fixed.get(kind, [])
 

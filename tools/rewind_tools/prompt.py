@@ -15,7 +15,7 @@ from rewind_tools.telling.commands import command_words, counted, edge_words, ve
 from rewind_tools.tool import words_of
 from rewind_tools.typed import NotTyped, condition_help, line_of, usage, words_of_line
 
-LIMIT = 1000
+LIMIT, MOST_STATES = 1000, 10_000
 # How wide the forms in the help are.
 WIDTH = 56
 # Of each word of the script what it does.
@@ -24,7 +24,7 @@ KINDS = {
     "notice": "deliver a notification; alone, the first that is enabled",
     "send": "send values from a capability that an opaque vertex holds",
     "release": "give up a held capability, or move it to a later time; alone, list all that are held",
-    "run": f"execute at most N steps, {LIMIT} if not given, of all processors or of some only",
+    "run": f"execute at most N steps, {LIMIT} if not given, of some processors only, or by lot from a seed",
     "broadcast": "send progress updates; alone, the first that is enabled", "jump": "go to position N",
     "receive": "receive the first update of a queue; alone, the first that is enabled",
     "back": "undo N steps, 1 if not given", "redo": "execute N undone steps again, 1 if not given",
@@ -32,6 +32,7 @@ KINDS = {
     "unbreak": "remove a breakpoint", "state": "the complete state",
     "why": "why a processor does not consider a time finished",
     "turns": "where a condition begins and ceases to hold",
+    "reach": f"the fewest steps to a condition, with feeds and releases; of N states, or {MOST_STATES}",
     "search": "the first position at which a condition holds",
     "frontier": "the frontier of a view, or the times that can still arrive",
     "passed": "whether a view has passed a time",
@@ -91,10 +92,13 @@ class Prompt(cmd.Cmd, Debugger):
             return self.held()
         if words[0] in STEPS and len(words) == 1 and words[0] not in ("feed", "send"):
             return self.first_of(words[0])
-        return self.ask(line_of(words, {} if words[0] in STEPS else self.defaults()))
+        return self.ask(line_of(words, self.defaults(words[0])))
 
-    def defaults(self):
-        return {"lo": 0, "hi": self.kept, "limit": LIMIT, "workers": 1, "to": self.at, "id": 0}
+    def defaults(self, word):
+        """What stands for the values of a command that are not typed."""
+        limit = MOST_STATES if word == "reach" else LIMIT
+        others = {"lo": 0, "hi": self.kept, "limit": limit, "workers": 1, "to": self.at, "id": 0}
+        return {} if word in STEPS else others
 
     def own_words(self):
         """The words that are the prompt's own."""
@@ -151,7 +155,7 @@ class Prompt(cmd.Cmd, Debugger):
         return self.ask(candidates[number]["step"])
 
     def do_next(self, rest):
-        """next [N] [only P ...]: execute the next N enabled steps, 1 if not given"""
+        """next [N] [only P ...] [seed N]: execute the next N enabled steps, 1 if not given"""
         return self.ask(line_of(["run", *words_of_line(rest)], {"limit": 1}, "next"))
 
     def do_back(self, rest):
@@ -332,7 +336,7 @@ class Prompt(cmd.Cmd, Debugger):
             self.say(line)
 
     def form_of(self, word):
-        form = FORM_OF[word] if word in FORM_OF else usage(word, {} if word in STEPS else self.defaults())
+        form = FORM_OF[word] if word in FORM_OF else usage(word, self.defaults(word))
         return f"{word} {form}".rstrip()
 
     def help_of(self, word):

@@ -23,7 +23,7 @@ COMMANDS = {
     "back": {},
     "redo": {},
     "jump": {"to": "whole"},
-    "run": {"limit": "whole", "only": "processors"},
+    "run": {"limit": "whole", "only": "processors", "seed": "whole"},
     "break": {"when": "when"},
     "unbreak": {"id": "whole"},
 }
@@ -42,25 +42,28 @@ QUERIES = {
     "candidates": {},
     "effect": {"to": "whole"},
     "turns": {"when": "when", "lo": "whole", "hi": "whole"},
+    "reach": {"when": "when", "limit": "whole", "with": "users"},
 }
 FORMS = {**COMMANDS, **QUERIES}
 # The keys of each word that a line may leave out, each with the version with which it came.
 OPTIONAL = {
     "broadcast": {"part": 1}, "frontier": {"at": 4}, "why": {"before": 4}, "release": {"to": 5, "keep": 6},
-    "run": {"only": 5}, "send": {"at": 6, "dest": 6},
+    "run": {"only": 5, "seed": 7}, "send": {"at": 6, "dest": 6}, "reach": {"with": 7},
 }  # fmt: skip
 # A key that may be left out, but not beside another: that key by the word and the key.
 NEEDED_BY = {("release", "to"): "keep"}
 # The version with which a word came, if it is not the first, and the last version that there is.
 SINCE = {
     "export": 2, "why": 3, "changes": 3, "step": 3, "candidates": 4, "effect": 4, "turns": 4, "release": 5,
-    "send": 6,
+    "send": 6, "reach": 7,
 }  # fmt: skip
-LAST = 6
+LAST = 7
 # The words of "next"; from a later version on, it may also be {"to": n}.
 NEXTS, NEXT_TO_SINCE = ("next", "close", "stay"), 5
 # The most processors under "only".
 MOST_ONLY = 16
+# The words under "with": which steps of users are among the moves.
+USERS = ("feed", "release")
 # The operators, each with the keys that its vertices have beside their name, their operator and their depth,
 # and those that they may have; the version with which one came, if it is not the first.
 PLAIN_OPS = ("input", "ingress", "egress", "feedback", "sum", "distinct", "sink", "hold")

@@ -4,6 +4,9 @@
                                                  "next": "next"}
     line_of("release 0 keep 0 to 3".split())     {"do": "release", "p": 0, "vertex": "keep", "time": [0],
                                                  "to": [3]}
+    line_of("reach passed 0 z 0 feed limit 9".split())
+                                                 {"do": "reach", "when": {"passed": {"q": 0, "at": "z",
+                                                 "time": [0]}}, "with": ["feed"], "limit": 9}
     line_of("send 0 x 0 1 5 at 2".split())       {"do": "send", "p": 0, "vertex": "x", "time": [0],
                                                  "port": 1, "values": [5], "at": [2]}
     wanted(["feed", "0"])                        what may be typed next: [("feed", "vertex")]
@@ -13,11 +16,13 @@ Values stand in the order of the grammar's keys. A time is its numbers with comm
 alone. NotTyped says what is missing or wrong, in words."""
 import shlex
 
-from rewind_tools.script import ATOMS, FORMS, MOST_LITERALS, NEXTS, OPTIONAL
+from rewind_tools.script import ATOMS, FORMS, MOST_LITERALS, NEXTS, OPTIONAL, USERS
 
 JOINTS = {"and": "all", "or": "any"}
 # The keys that are typed by their own name, with the value after it.
-MARKED = {"send": ["at", "dest"], "release": ["to"], "run": ["only"]}
+MARKED = {"send": ["at", "dest"], "release": ["to"], "run": ["only", "seed"], "reach": ["limit"]}
+# The order in which the values of a command are typed, if it is not that of the grammar's keys.
+ORDERS = {"reach": ["when", "with", "limit"]}
 # What stands for a kind of value in the form that help shows, and under some keys in place of that.
 SHOWN = {
     "small": "P", "port": "PORT", "whole": "N", "signed": "N", "vertex": "VERTEX", "edge": "EDGE",
@@ -25,6 +30,7 @@ SHOWN = {
     "point": "LOCATION TIME", "points": "LOCATION TIME ...", "values": "VALUE ...",
     "next": "|".join([*NEXTS, "to N"]), "when": "CONDITION", "processors": "P ...",
     "joint": "and|or",
+    "users": "] [".join(USERS),  # each of them may be left out
 }  # fmt: skip
 KEYS_SHOWN = {"lo": "FROM", "hi": "TO", "workers": "THREADS", "value": "VALUE"}
 # The order in which the values of a condition are typed, and when each holds.
@@ -84,9 +90,13 @@ class Words:
     def take(self, kind, shown=None):
         if not self.words:
             self.may_follow(kind)
-            form = f"{self.said} {self.form}".rstrip()
-            raise NotTyped(f"{self.said} needs {shown or SHOWN.get(kind, kind)} here; its form is: {form}")
+            raise self.lacks(shown or SHOWN.get(kind, kind))
         return self.words.pop(0)
+
+    def lacks(self, what):
+        """The fault that something is missing."""
+        form = f"{self.said} {self.form}".rstrip()
+        return NotTyped(f"{self.said} needs {what} here; its form is: {form}")
 
     def while_numbers(self):
         """The numbers up to the next word that is none."""
@@ -112,6 +122,16 @@ class Words:
     def processors(self):
         found = [number(self.take("processors")), *self.while_numbers()]
         self.may_follow("processors")
+        return found
+
+    def users(self):
+        """The words that count steps of users, each at most once; there may be none."""
+        found = []
+        while self.words and self.words[0] in USERS and self.words[0] not in found:
+            found.append(self.words.pop(0))
+        for it in USERS:
+            if it not in found:
+                self.may_follow(it)
         return found
 
     def next(self):
@@ -149,9 +169,15 @@ READERS = {
     "points": Words.points,
     "values": Words.while_numbers,
     "processors": Words.processors,
+    "users": Words.users,
     "when": Words.condition,
     "next": Words.next,
 }
+
+
+def form_of(word):
+    """The keys of a word in the order in which they are typed, each with its kind of value."""
+    return {key: FORMS[word][key] for key in ORDERS.get(word, FORMS[word])}
 
 
 def usage(word, defaults=()):
@@ -161,7 +187,7 @@ def usage(word, defaults=()):
     if word not in FORMS:
         return ""
     may_lack, marked = OPTIONAL.get(word, {}), MARKED.get(word, [])
-    shown = {key: KEYS_SHOWN.get(key, SHOWN.get(kind, key)) for key, kind in FORMS[word].items()}
+    shown = {key: KEYS_SHOWN.get(key, SHOWN.get(kind, key)) for key, kind in form_of(word).items()}
     shown = {key: f"{key} {it}" if key in marked else it for key, it in shown.items()}
     return " ".join(f"[{it}]" if key in may_lack or key in defaults else it for key, it in shown.items())
 
@@ -184,12 +210,19 @@ def read_line(left, word, defaults):
     """The script's line of the words that are left."""
     marked, may_lack = MARKED.get(word, []), OPTIONAL.get(word, {})
     value = {"do": word}
-    for key, kind in FORMS[word].items():
-        if key in marked or kind == "flag":
+    for key, kind in form_of(word).items():
+        if kind == "users":
+            found = left.users()
+            value.update({key: found} if found else {})
+        elif key in marked or kind == "flag":
             left.may_follow(key)
             if left.words[:1] == [key]:
                 left.take(kind)
                 value[key] = kind == "flag" or left.value(kind)
+            elif key in defaults:
+                value[key] = defaults[key]
+            elif key not in may_lack:
+                raise left.lacks(key)
         elif left.words and not (key in defaults and left.words[0] in marked):
             value[key] = left.value(kind, key)
         elif key in defaults:

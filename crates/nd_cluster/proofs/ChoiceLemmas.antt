@@ -1,15 +1,16 @@
 -- The choice among a list of steps.
-use Rattle.std.proofs.Common.{◌≡◌, ◌-◌, ◌%◌, ◌++◌, inl, inr, ℕ, List, [], ◌∷◌, length, Option, Some, None, refl, sym, ap, subst, ◌∙◌, arith}
+use Rattle.std.proofs.Common.{◌≡◌, ◌-◌, ◌%◌, ◌++◌, inl, inr, ℕ, List, [], ◌∷◌, length, take, drop, Option, Some, None, refl, sym, ap, subst, ◌∙◌, arith}
 use Rattle.std.specs.Prelude.{◌↔◌, Contains, IsNone, option_map}
 use Rattle.std.specs.List.{range_with_len}
+use Rattle.std.proofs.lemmas.List.{take-append-drop}
 use Rattle.std.proofs.lemmas.List.Concat.{flat_map-append}
-use Rattle.std.proofs.lemmas.List.Elements.{All-nil, All-cons, All-weaker, All-contains, Contains-append_left, Contains-append_right, Contains-push}
+use Rattle.std.proofs.lemmas.List.Elements.{All-nil, All-cons, All-append, All-take, All-drop, All-weaker, All-contains, Contains-append_left, Contains-append_right, Contains-append_cases, Contains-push}
 use Rattle.nd_protocol.specs.State.{ClusterState}
 use Rattle.nd_protocol.specs.Enabled.{IsEnabled}
 use Rattle.nd_protocol.specs.declared.step.Step.{Step}
 use Rattle.nd_steps.specs.declared.record.Record.{Record}
 use Rattle.nd_cluster.specs.Candidates.{candidates_if, candidates_on, IsAmong, AreComplete}
-use Rattle.nd_cluster.specs.Choice.{candidates_from, Chooses, AreRefused, Finds}
+use Rattle.nd_cluster.specs.Choice.{candidates_from, turned_to, turned_by, Chooses, AreRefused, Finds}
 
 module _ {A : Type 0} (s : ClusterState) where
   -- all of xs are refused
@@ -65,3 +66,27 @@ module _ {A : Type 0} (s : ClusterState) where
         → Finds s (candidates_on s only (range_with_len 0 (turn % m - 0))) found → Finds s (candidates_from s turn only) found
     found_later found none h =
         (subst (λ xs. Chooses s xs (option_map (λ (r : Record A). r.step) found)) halves (chooses_later (candidates_on s only (range_with_len (turn % m) (n - turn % m))) _ _ none.0 h.0), h.1)
+
+  -- ---- from a place of a list to its end, and then the items before it
+
+  -- a complete list is complete from each of its places on
+  pub complete_turned : (only : Option (List ℕ)) (j : ℕ) (xs : List (Step A)) → AreComplete s only xs → AreComplete s only (turned_to j xs)
+  complete_turned only j xs is = record {
+    kinds = All-append (IsAmong only) (drop j xs) (take j xs) (All-drop (IsAmong only) j xs is.kinds) (All-take (IsAmong only) j xs is.kinds);
+    covers = λ x among e.
+        let here : Contains (take j xs ++ drop j xs) x = subst (λ ys. Contains ys x) (sym (take-append-drop j xs)) (is.covers x among e) in
+        elim (Contains-append_cases (take j xs) (drop j xs) x here) [
+          | inl first ↦ Contains-append_right (drop j xs) (take j xs) x first
+          | inr second ↦ Contains-append_left (drop j xs) (take j xs) x second
+        ];
+  }
+
+  module _ (lot : ℕ) (xs : List (Step A)) where
+    pub turned_sooner : (later : List (Step A)) (r : Record A) → later ≡ drop (lot % length xs) xs → Finds s later (Some r) → Finds s (turned_by lot xs) (Some r)
+    turned_sooner later r is h = (subst (λ (ys : List (Step A)). Chooses s (ys ++ take (lot % length xs) xs) (Some r.step)) is (chooses_sooner later (take (lot % length xs) xs) r.step h.0), h.1)
+
+    pub turned_later : (later earlier : List (Step A)) (found : Option (Record A)) → later ≡ drop (lot % length xs) xs → earlier ≡ take (lot % length xs) xs
+        → Finds {A = A} s later None → Finds s earlier found → Finds s (turned_by lot xs) found
+    turned_later later earlier found is also none h =
+        let choice : Option (Step A) = option_map (λ (r : Record A). r.step) found in
+        (subst (λ (ys : List (Step A)). Chooses s (drop (lot % length xs) xs ++ ys) choice) also (subst (λ (ys : List (Step A)). Chooses s (ys ++ earlier) choice) is (chooses_later later earlier choice none.0 h.0)), h.1)

@@ -1,11 +1,11 @@
 -- The choice of a run's next step: the first enabled candidate, beginning with the turn's processor (this project's own rule).
-use Rattle.std.specs.Prelude.{◌≡◌, ◌⊎◌, ◌-◌, ◌%◌, ℕ, List, [], ◌∷◌, ◌++◌, length, Option, Some, None, option_map, IfSome, All}
+use Rattle.std.specs.Prelude.{◌≡◌, ◌⊎◌, ◌-◌, ◌%◌, ℕ, List, [], ◌∷◌, ◌++◌, length, take, drop, Option, Some, None, option_map, IfSome, All}
 use Rattle.std.specs.List.{range_with_len}
 use Rattle.nd_protocol.specs.State.{ClusterState}
 use Rattle.nd_protocol.specs.Enabled.{IsEnabled}
 use Rattle.nd_protocol.specs.declared.step.Step.{Step}
 use Rattle.nd_steps.specs.declared.record.Record.{Record}
-use Rattle.nd_cluster.specs.Candidates.{candidates_on}
+use Rattle.nd_cluster.specs.Candidates.{candidates_among, candidates_on}
 use Rattle.nd_cluster.specs.Records.{IsPlanned}
 
 -- ---- the turn
@@ -17,6 +17,20 @@ from_turn n turn = range_with_len (turn % n) (n - turn % n) ++ range_with_len 0 
 -- the candidates of the processors that a run goes through, beginning with the turn's
 abbrev pub candidates_from : {A : Type 0} → ClusterState → ℕ → Option (List ℕ) → List (Step A)
 candidates_from s turn only = candidates_on s only (from_turn (length s.processors) turn)
+
+-- ---- the choice by a lot
+
+-- a list from the place j to its end, and then its items before j
+abbrev pub turned_to : {X : Type 0} → ℕ → List X → List X
+turned_to j xs = drop j xs ++ take j xs
+
+-- these steps, beginning with the place that the number `lot` has modulo their count
+abbrev pub turned_by : {A : Type 0} → ℕ → List (Step A) → List (Step A)
+turned_by lot xs = turned_to (lot % length xs) xs
+
+-- the candidates of the processors that a run goes through, beginning with the place of a lot
+abbrev pub candidates_by : {A : Type 0} → ClusterState → ℕ → Option (List ℕ) → List (Step A)
+candidates_by s lot only = turned_by lot (candidates_among s only)
 
 -- ---- the choice
 

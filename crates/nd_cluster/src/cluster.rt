@@ -1,5 +1,5 @@
 //! A cluster of processors, and its readers.
-ghost use Rattle.std.specs.Prelude.{◌≡◌, ◌<◌, ◌↔◌, All, length, IfSome, IsNone, IsTrue};
+ghost use Rattle.std.specs.Prelude.{◌≡◌, ◌<◌, ◌↔◌, All, length, IfSome, IsNone, IsTrue, option_copied, slice_get};
 ghost use Rattle.nd_delta.specs.Least.{IsLeast};
 ghost use Rattle.nd_view.specs.View.{IsPassed, IsBlocker};
 ghost use Rattle.nd_view.specs.Kept.{IsFor};
@@ -8,6 +8,7 @@ ghost use Rattle.nd_protocol.specs.State.{processor, view, queue};
 ghost use Rattle.nd_protocol.specs.Fitting.{IsState};
 ghost use Rattle.nd_protocol.specs.Invariant.{KeepsProtocol, IsFinished};
 
+use nd_delta::Delta;
 use nd_graph::Graph;
 use nd_mesh::Mesh;
 use nd_paths::{Paths, Pointstamp};
@@ -130,6 +131,16 @@ impl<A: Allocator + Copy> Cluster<A> {
         ensures state { IsState self.now }
     {
         self.parts.mesh()
+    }
+
+    /// Returns the change at index `i` of the queue from one processor to another, counted from the front, or `None` if
+    /// there is none.
+    pub fn queued(&self, from: usize, to: usize, i: usize) -> Option<&Delta<A>>
+        requires sender { from < length self.now.processors }
+        requires receiver { to < length self.now.processors }
+        ensures { option_copied result ≡ slice_get (queue self.now from to) i }
+    {
+        self.mesh().get(from, to, i)
     }
 
     /// Returns the number of changes in the queue from one processor to another.

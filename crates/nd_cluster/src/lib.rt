@@ -10,6 +10,7 @@ mod choice;
 mod cluster;
 mod commit;
 mod effect;
+mod moves;
 mod parts;
 mod plan;
 mod readers;
@@ -24,6 +25,7 @@ mod work;
 
 pub use candidate::{Candidate, CandidateList, Candidates};
 pub use cluster::Cluster;
+pub use moves::Allowed;
 pub use nd_paths::ArrivalTime;
 pub use nd_protocol::{Next, NoMemory, Part, Points, Refusal, Step, Values};
 pub use nd_steps::{Altered, Change, Changes, Effect, Entries, Entry, ItemAt, Record, Slot};

@@ -253,7 +253,9 @@ fn tells<A: Allocator + Copy>(cluster: &Cluster<A>) -> Option<bool> {
         counts == (1, 1, 2)
             && (cluster.count(&az), cluster.sink_count(1, 7)) == (1, 1)
             && !cluster.passed(0, &z)
-            && cluster.blocker(0, &z).is_some(),
+            && cluster.blocker(0, &z).is_some()
+            && cluster.queued(0, 0, 0).is_some()
+            && cluster.queued(0, 0, 1).is_none(),
     )
 }
 

@@ -3,7 +3,7 @@
 
 use crate::copies::go;
 use crate::refused::Heap;
-use nd_cluster::{Cluster, Next, Step};
+use nd_cluster::{Allowed, Cluster, Next, Step};
 use nd_examples::{
     HELD, HELD_MOVED, LINE, LOOP, SUM_NOTIFIED, Script, Sent, TRACED, Told, point, processors_of,
     start, step_of, values_of,
@@ -112,6 +112,19 @@ fn copy<A: Allocator + Copy>(alloc: A, cluster: &Cluster<A>, step: &Step<A>) -> 
     Some(())
 }
 
+/// Lists the candidates and the moves, and chooses a step by lot, of each kind and of processor 0.
+fn choose<A: Allocator + Copy>(alloc: A, cluster: &Cluster<A>) -> Option<()> {
+    let only = Some(processors_of(alloc, &[0])?);
+    cluster.all_candidates(only.as_ref()).ok()?;
+    cluster.drawn_planned(1, only.as_ref()).ok()?;
+    let allowed = Allowed {
+        feeds: true,
+        releases: true,
+    };
+    cluster.moves(allowed).ok()?;
+    Some(())
+}
+
 /// Asks each question about a cluster, and copies it.
 fn ask<A: Allocator + Copy>(alloc: A, cluster: &Cluster<A>) -> Option<()> {
     let z = point(cluster.graph(), "z", &[1])?;
@@ -119,6 +132,7 @@ fn ask<A: Allocator + Copy>(alloc: A, cluster: &Cluster<A>) -> Option<()> {
         return None;
     }
     cluster.candidates().ok()?;
+    choose(alloc, cluster)?;
     cluster.frontier_at(alloc, 0, z.location).ok()?;
     cluster.why(alloc, 0, &z).ok()?;
     cluster.why_before(alloc, 0, &z).ok()?;

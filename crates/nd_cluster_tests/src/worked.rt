@@ -1,9 +1,10 @@
 //! The worked examples of calls that no line of a script makes, by their names.
 
+use nd_cluster::{Allowed, Next};
 use nd_delta::{Delta, DeltaFault, LargeDelta};
 use nd_examples::{
-    LINE, LOOP, TWO_WAYS, are_entries, change, graph_of, len, paths_of, point, pop, push, unpop,
-    unpush,
+    HELD, LINE, LOOP, Script, TWO_WAYS, Told, are_entries, change, graph_of, len, paths_of, point,
+    pop, processors_of, push, reach, unpop, unpush,
 };
 use nd_mesh::{LIMIT, Mesh, PushFault};
 use nd_paths::{Constants, Paths, Summary};
@@ -135,4 +136,52 @@ fn two_go_through(alloc: Global) -> Option<bool> {
 #[test]
 fn queue_ends_when_new(rt: HostRuntime) {
     assert!(rt; two_go_through(rt.alloc()) == Some(true));
+}
+
+/// A script, the steps of users that are allowed, and how many candidates and moves there are then.
+type Row = (Script, Allowed, usize, usize);
+
+const FEEDS: Allowed = Allowed {
+    feeds: true,
+    releases: false,
+};
+
+const RELEASES: Allowed = Allowed {
+    feeds: false,
+    releases: true,
+};
+
+/// A processor that can take a record and broadcast, and holds a capability, of which no notice comes. Its input is closed.
+const HOLDING: Script = (
+    HELD,
+    1,
+    &[
+        Told::Feed(0, "a", &[7], Next::Close),
+        Told::Take(0, "ah", &[0], 7),
+    ],
+);
+
+static ROWS: [Row; 4] = [
+    ((LINE, 1, &[]), RELEASES, 0, 0),
+    ((LINE, 1, &[]), FEEDS, 0, 2),
+    (HOLDING, FEEDS, 3, 2),
+    (HOLDING, RELEASES, 3, 3),
+];
+
+/// Returns whether a row has so many candidates and moves, and whether each lot chooses a candidate, if there is one.
+fn has_moves(alloc: Global, row: &Row) -> Option<bool> {
+    let ((text, n, steps), allowed, candidates, moves) = row;
+    let cluster = reach(alloc, alloc, text, *n, steps)?;
+    let only = Some(processors_of(alloc, &[0])?);
+    let count = cluster.all_candidates(only.as_ref()).ok()?.len();
+    let drawn = cluster.drawn_planned(u64::MAX, only.as_ref()).ok()?;
+    let found = cluster.moves(*allowed).ok()?.len();
+    Some((count, found) == (*candidates, *moves) && drawn.is_some() == (count > 0))
+}
+
+#[test]
+fn moves(rt: HostRuntime) {
+    for (i, row) in ROWS.iter().enumerate() {
+        assert!(rt; has_moves(rt.alloc(), row) == Some(true), "in row {i}");
+    }
 }

@@ -7,6 +7,8 @@ mod memory;
 #[cfg(test)]
 mod opened;
 #[cfg(test)]
+mod reaches;
+#[cfg(test)]
 mod searches;
 #[cfg(test)]
 mod sessions;

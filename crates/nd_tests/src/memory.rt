@@ -26,7 +26,7 @@ enum Call {
 }
 
 /// A command of each kind among them.
-static CALLS: [Call; 4] = [
+static CALLS: [Call; 5] = [
     Call::Commands(&[
         NOTHING,
         NOTHING,
@@ -44,6 +44,7 @@ static CALLS: [Call; 4] = [
         Asked::Clear(0),
         Asked::Clear(0),
     ]),
+    Call::Commands(&[FEED, Asked::RunBySeed(10, 1)]),
     Call::Enter,
     Call::CopyForStranger,
 ];

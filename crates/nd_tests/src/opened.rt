@@ -18,6 +18,8 @@ pub enum Asked {
     Run(u64),
     /// A run of the processors of a list.
     RunOnly(u64, &'static [u32]),
+    /// A run by a seed.
+    RunBySeed(u64, u64),
     /// The breakpoint that holds if the sink of this name has counted the value.
     Sink(&'static str, i64),
     Clear(u64),
@@ -45,10 +47,17 @@ pub fn command_of<A: Allocator + Copy>(
         Asked::Run(limit) => Some(Command::Run {
             limit: *limit,
             only: None,
+            seed: None,
+        }),
+        Asked::RunBySeed(limit, seed) => Some(Command::Run {
+            limit: *limit,
+            only: None,
+            seed: Some(*seed),
         }),
         Asked::RunOnly(limit, list) => Some(Command::Run {
             limit: *limit,
             only: Some(processors_of(alloc, list)?),
+            seed: None,
         }),
         Asked::Sink(name, value) => {
             let condition = only(Atom::Sink {

@@ -18,5 +18,5 @@ pub fn run_all<A: Allocator + Copy>(
     breaks: &Breaks<A>,
 ) -> Result<Ran, Fault> {
     let all: Option<Processors<A>> = None;
-    timeline.run(limit, all.as_ref(), breaks)
+    timeline.run(limit, all.as_ref(), None, breaks)
 }

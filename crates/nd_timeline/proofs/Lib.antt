@@ -4,3 +4,4 @@ pub mod KeptSteps
 pub mod RunLemmas
 pub mod RepliesLemmas
 pub mod CheckpointLemmas
+pub mod SeedsLemmas

@@ -80,29 +80,29 @@ module _ {A : Type 0} where
   jump_base m new n (reply.Moved at kept) h = same_base (moved_to m n) new h.3
   jump_base m new n _ h = absurd h
 
-  has_run_base : (only : Option (List ℕ)) (breaks : BreakMap) (n : ℕ) (m new : TimelineValue A) → HasRun only breaks n m new → new.base ≡ m.base
+  has_run_base : (only : Option (List ℕ)) (seed : Option ℕ) (breaks : BreakMap) (n : ℕ) (m new : TimelineValue A) → HasRun only seed breaks n m new → new.base ≡ m.base
   unfolding HasRun
-  has_run_base only breaks zero m new h = same_base m new h
-  has_run_base only breaks (suc n) m new h = same_base (extended h.mid h.step) new h.last.made ∙ has_run_base only breaks n m h.mid h.earlier
+  has_run_base only seed breaks zero m new h = same_base m new h
+  has_run_base only seed breaks (suc n) m new h = same_base (extended h.mid h.step) new h.last.made ∙ has_run_base only seed breaks n m h.mid h.earlier
 
-  stops_base : (only : Option (List ℕ)) (breaks : BreakMap) (limit : ℕ) (m : TimelineValue A) (ran : ℕ) (why : Stop) (new : TimelineValue A) → StopsAt only breaks limit m ran why new → new.base ≡ m.base
-  stops_base only breaks limit m ran stop.Limit new h = has_run_base only breaks ran m new h.1
-  stops_base only breaks limit m ran stop.Idle new h = has_run_base only breaks ran m new h.1
-  stops_base only breaks limit m ran (stop.Break id) new h = same_base (extended h.mid h.step) new h.last.made ∙ has_run_base only breaks h.before m h.mid h.earlier
+  stops_base : (only : Option (List ℕ)) (seed : Option ℕ) (breaks : BreakMap) (limit : ℕ) (m : TimelineValue A) (ran : ℕ) (why : Stop) (new : TimelineValue A) → StopsAt only seed breaks limit m ran why new → new.base ≡ m.base
+  stops_base only seed breaks limit m ran stop.Limit new h = has_run_base only seed breaks ran m new h.1
+  stops_base only seed breaks limit m ran stop.Idle new h = has_run_base only seed breaks ran m new h.1
+  stops_base only seed breaks limit m ran (stop.Break id) new h = same_base (extended h.mid h.step) new h.last.made ∙ has_run_base only seed breaks h.before m h.mid h.earlier
 
-  run_base : (m new : TimelineValue A) (limit : ℕ) (only : Option (List ℕ)) (breaks : BreakMap) (r : Reply) → RunMoves m limit only breaks r new → new.base ≡ m.base
-  run_base m new limit only breaks (reply.Refused fault.TimelineFull) h = same_base m new h.1
-  run_base m new limit only breaks (reply.Refused (fault.Step NoProcessor)) h = same_base m new h.2
-  run_base m new limit only breaks (reply.Refused (fault.Memory at)) h = has_run_base only breaks h.2.0 m new h.2.2
-  run_base m new limit only breaks (reply.Ran at kept ran why) h = stops_base only breaks limit m ran why new h.2
-  run_base m new limit only breaks _ h = absurd h
+  run_base : (m new : TimelineValue A) (limit : ℕ) (only : Option (List ℕ)) (seed : Option ℕ) (breaks : BreakMap) (r : Reply) → RunMoves m limit only seed breaks r new → new.base ≡ m.base
+  run_base m new limit only seed breaks (reply.Refused fault.TimelineFull) h = same_base m new h.1
+  run_base m new limit only seed breaks (reply.Refused (fault.Step NoProcessor)) h = same_base m new h.2
+  run_base m new limit only seed breaks (reply.Refused (fault.Memory at)) h = has_run_base only seed breaks h.2.0 m new h.2.2
+  run_base m new limit only seed breaks (reply.Ran at kept ran why) h = stops_base only seed breaks limit m ran why new h.2
+  run_base m new limit only seed breaks _ h = absurd h
 
 pub keeps_base : (A : Type 0) → MovesKeepBase A
 keeps_base A m new (command.Forward x) r h = forward_base m.timeline new.timeline x r h.0
 keeps_base A m new command.Back r h = back_base m.timeline new.timeline r h.0
 keeps_base A m new command.Redo r h = redo_base m.timeline new.timeline r h.0
 keeps_base A m new (command.Jump n) r h = jump_base m.timeline new.timeline n r h.0
-keeps_base A m new (command.Run limit only) r h = run_base m.timeline new.timeline limit only m.breaks r h.0
+keeps_base A m new (command.Run limit only seed) r h = run_base m.timeline new.timeline limit only seed m.breaks r h.0
 keeps_base A m new (command.SetBreak b) r h = same_base m.timeline new.timeline h.1
 keeps_base A m new (command.ClearBreak id) r h = same_base m.timeline new.timeline h.1
 
@@ -138,40 +138,40 @@ module _ {A : Type 0} where
   jump_is m new n (reply.Moved at kept) h was = moved_is m new n h.3 h.0 was
   jump_is m new n _ h was = absurd h
 
-  has_run_cursor : (only : Option (List ℕ)) (breaks : BreakMap) (n : ℕ) (m new : TimelineValue A) → HasRun only breaks n m new → new.cursor ≡ m.cursor + n
+  has_run_cursor : (only : Option (List ℕ)) (seed : Option ℕ) (breaks : BreakMap) (n : ℕ) (m new : TimelineValue A) → HasRun only seed breaks n m new → new.cursor ≡ m.cursor + n
   unfolding HasRun
-  has_run_cursor only breaks zero m new h = let same : new.cursor ≡ m.cursor = ap (λ (m : TimelineValue A). m.cursor) h in omega (arith, same)
-  has_run_cursor only breaks (suc n) m new h =
-      let before : h.mid.cursor ≡ m.cursor + n = has_run_cursor only breaks n m h.mid h.earlier in
+  has_run_cursor only seed breaks zero m new h = let same : new.cursor ≡ m.cursor = ap (λ (m : TimelineValue A). m.cursor) h in omega (arith, same)
+  has_run_cursor only seed breaks (suc n) m new h =
+      let before : h.mid.cursor ≡ m.cursor + n = has_run_cursor only seed breaks n m h.mid h.earlier in
       let last : new.cursor ≡ h.mid.cursor + 1 = ap (λ (m : TimelineValue A). m.cursor) h.last.made in
       omega (arith, before, last)
 
-  has_run_is : (only : Option (List ℕ)) (breaks : BreakMap) (n : ℕ) (m new : TimelineValue A) → HasRun only breaks n m new → m.cursor + n ≤ max_kept → IsTimeline m → IsTimeline new
+  has_run_is : (only : Option (List ℕ)) (seed : Option ℕ) (breaks : BreakMap) (n : ℕ) (m new : TimelineValue A) → HasRun only seed breaks n m new → m.cursor + n ≤ max_kept → IsTimeline m → IsTimeline new
   unfolding HasRun
-  has_run_is only breaks zero m new h room was = same_is m new h was
-  has_run_is only breaks (suc n) m new h room was =
-      let before : h.mid.cursor ≡ m.cursor + n = has_run_cursor only breaks n m h.mid h.earlier in
-      extended_is h.mid new h.step h.last.made (omega (arith, before, room)) (goes_enabled only h.mid new h.step h.last) (has_run_is only breaks n m h.mid h.earlier (omega (arith, room)) was)
+  has_run_is only seed breaks zero m new h room was = same_is m new h was
+  has_run_is only seed breaks (suc n) m new h room was =
+      let before : h.mid.cursor ≡ m.cursor + n = has_run_cursor only seed breaks n m h.mid h.earlier in
+      extended_is h.mid new h.step h.last.made (omega (arith, before, room)) (goes_enabled only seed h.mid new h.step h.last) (has_run_is only seed breaks n m h.mid h.earlier (omega (arith, room)) was)
 
-  stops_is : (only : Option (List ℕ)) (breaks : BreakMap) (limit : ℕ) (m : TimelineValue A) (ran : ℕ) (why : Stop) (new : TimelineValue A) → StopsAt only breaks limit m ran why new → m.cursor + limit ≤ max_kept → IsTimeline m → IsTimeline new
-  stops_is only breaks limit m ran stop.Limit new h room was = has_run_is only breaks ran m new h.1 (omega (arith, h.0, room)) was
-  stops_is only breaks limit m ran stop.Idle new h room was = has_run_is only breaks ran m new h.1 (omega (arith, h.0, room)) was
-  stops_is only breaks limit m ran (stop.Break id) new h room was =
-      let at : h.mid.cursor ≡ m.cursor + h.before = has_run_cursor only breaks h.before m h.mid h.earlier in
-      extended_is h.mid new h.step h.last.made (omega (arith, at, h.within, room)) (goes_enabled only h.mid new h.step h.last) (has_run_is only breaks h.before m h.mid h.earlier (omega (arith, h.within, room)) was)
+  stops_is : (only : Option (List ℕ)) (seed : Option ℕ) (breaks : BreakMap) (limit : ℕ) (m : TimelineValue A) (ran : ℕ) (why : Stop) (new : TimelineValue A) → StopsAt only seed breaks limit m ran why new → m.cursor + limit ≤ max_kept → IsTimeline m → IsTimeline new
+  stops_is only seed breaks limit m ran stop.Limit new h room was = has_run_is only seed breaks ran m new h.1 (omega (arith, h.0, room)) was
+  stops_is only seed breaks limit m ran stop.Idle new h room was = has_run_is only seed breaks ran m new h.1 (omega (arith, h.0, room)) was
+  stops_is only seed breaks limit m ran (stop.Break id) new h room was =
+      let at : h.mid.cursor ≡ m.cursor + h.before = has_run_cursor only seed breaks h.before m h.mid h.earlier in
+      extended_is h.mid new h.step h.last.made (omega (arith, at, h.within, room)) (goes_enabled only seed h.mid new h.step h.last) (has_run_is only seed breaks h.before m h.mid h.earlier (omega (arith, h.within, room)) was)
 
-  run_is : (m new : TimelineValue A) (limit : ℕ) (only : Option (List ℕ)) (breaks : BreakMap) (r : Reply) → RunMoves m limit only breaks r new → IsTimeline m → IsTimeline new
-  run_is m new limit only breaks (reply.Refused fault.TimelineFull) h was = same_is m new h.1 was
-  run_is m new limit only breaks (reply.Refused (fault.Step NoProcessor)) h was = same_is m new h.2 was
-  run_is m new limit only breaks (reply.Refused (fault.Memory at)) h was = has_run_is only breaks h.2.0 m new h.2.2 (omega (arith, h.0, h.2.1)) was
-  run_is m new limit only breaks (reply.Ran at kept ran why) h was = stops_is only breaks limit m ran why new h.2 h.0 was
-  run_is m new limit only breaks _ h was = absurd h
+  run_is : (m new : TimelineValue A) (limit : ℕ) (only : Option (List ℕ)) (seed : Option ℕ) (breaks : BreakMap) (r : Reply) → RunMoves m limit only seed breaks r new → IsTimeline m → IsTimeline new
+  run_is m new limit only seed breaks (reply.Refused fault.TimelineFull) h was = same_is m new h.1 was
+  run_is m new limit only seed breaks (reply.Refused (fault.Step NoProcessor)) h was = same_is m new h.2 was
+  run_is m new limit only seed breaks (reply.Refused (fault.Memory at)) h was = has_run_is only seed breaks h.2.0 m new h.2.2 (omega (arith, h.0, h.2.1)) was
+  run_is m new limit only seed breaks (reply.Ran at kept ran why) h was = stops_is only seed breaks limit m ran why new h.2 h.0 was
+  run_is m new limit only seed breaks _ h was = absurd h
 
 pub keeps_timelines : (A : Type 0) → MovesKeepTimelines A
 keeps_timelines A m new (command.Forward x) r h was = forward_is m.timeline new.timeline x r h.0 was
 keeps_timelines A m new command.Back r h was = back_is m.timeline new.timeline r h.0 was
 keeps_timelines A m new command.Redo r h was = redo_is m.timeline new.timeline r h.0 was
 keeps_timelines A m new (command.Jump n) r h was = jump_is m.timeline new.timeline n r h.0 was
-keeps_timelines A m new (command.Run limit only) r h was = run_is m.timeline new.timeline limit only m.breaks r h.0 was
+keeps_timelines A m new (command.Run limit only seed) r h was = run_is m.timeline new.timeline limit only seed m.breaks r h.0 was
 keeps_timelines A m new (command.SetBreak b) r h was = same_is m.timeline new.timeline h.1 was
 keeps_timelines A m new (command.ClearBreak id) r h was = same_is m.timeline new.timeline h.1 was

@@ -2,11 +2,11 @@
 use Rattle.std.proofs.Common.{◌≡◌, ℕ, zero, suc, List, Option, Some, sym, ap, subst, ◌∙◌, arith}
 use Rattle.nd_protocol.specs.declared.step.Step.{Step}
 use Rattle.nd_protocol.specs.declared.refusal.Refusal.TheVariants.{NoProcessor}
-use Rattle.nd_cluster.specs.Choice.{candidates_from}
 use Rattle.nd_breaks.specs.Breaks.{BreakMap}
 use Rattle.nd_breaks.specs.Conditions.{ConditionValue}
 use Rattle.nd_timeline.specs.Timeline.{TimelineValue, cluster_of, extended}
 use Rattle.nd_timeline.specs.Moves.{MachineValue, ForwardMoves, BackMoves, RedoMoves, JumpMoves, Goes, HasRun, StopsAt, RunMoves, SetMoves, ClearMoves}
+use Rattle.nd_timeline.specs.Seeds.{tried}
 use Rattle.nd_timeline.specs.Laws.{RepliesTellMachines}
 use Rattle.nd_timeline.specs.declared.command.Command.TheVariants as command
 use Rattle.nd_timeline.specs.declared.fault.Fault.TheVariants as fault
@@ -46,38 +46,38 @@ module _ {A : Type 0} where
 
   -- ---- a run
 
-  one_step : (only : Option (List ℕ)) (m l new other : TimelineValue A) (x y : Step A) → m ≡ l → Goes only m x new → Goes only l y other → new ≡ other
-  one_step only m l new other x y same g h =
-      let k : Goes only m y other = subst (λ (m : TimelineValue A). Goes only m y other) (sym same) h in
-      let chosen : x ≡ y = cc (one_choice (cluster_of m) (candidates_from (cluster_of m) m.cursor only) (Some x) (Some y) g.chosen k.chosen) in
+  one_step : (only : Option (List ℕ)) (seed : Option ℕ) (m l new other : TimelineValue A) (x y : Step A) → m ≡ l → Goes only seed m x new → Goes only seed l y other → new ≡ other
+  one_step only seed m l new other x y same g h =
+      let k : Goes only seed m y other = subst (λ (m : TimelineValue A). Goes only seed m y other) (sym same) h in
+      let chosen : x ≡ y = cc (one_choice (cluster_of m) (tried (cluster_of m) m.cursor only seed) (Some x) (Some y) g.chosen k.chosen) in
       g.made ∙ ap (extended m) chosen ∙ sym k.made
 
-  one_run : (only : Option (List ℕ)) (breaks : BreakMap) (n : ℕ) (m new other : TimelineValue A) → HasRun only breaks n m new → HasRun only breaks n m other → new ≡ other
+  one_run : (only : Option (List ℕ)) (seed : Option ℕ) (breaks : BreakMap) (n : ℕ) (m new other : TimelineValue A) → HasRun only seed breaks n m new → HasRun only seed breaks n m other → new ≡ other
   unfolding HasRun
-  one_run only breaks zero m new other h k = h ∙ sym k
-  one_run only breaks (suc n) m new other h k =
-      one_step only h.mid k.mid new other h.step k.step (one_run only breaks n m h.mid k.mid h.earlier k.earlier) h.last k.last
+  one_run only seed breaks zero m new other h k = h ∙ sym k
+  one_run only seed breaks (suc n) m new other h k =
+      one_step only seed h.mid k.mid new other h.step k.step (one_run only seed breaks n m h.mid k.mid h.earlier k.earlier) h.last k.last
 
   -- two runs of the same number of steps lead to the same timeline
-  one_run_of : (only : Option (List ℕ)) (breaks : BreakMap) (n c : ℕ) (m new other : TimelineValue A) → n ≡ c → HasRun only breaks n m new → HasRun only breaks c m other → new ≡ other
-  one_run_of only breaks n c m new other same h k = one_run only breaks n m new other h (subst (λ n. HasRun only breaks n m other) (sym same) k)
+  one_run_of : (only : Option (List ℕ)) (seed : Option ℕ) (breaks : BreakMap) (n c : ℕ) (m new other : TimelineValue A) → n ≡ c → HasRun only seed breaks n m new → HasRun only seed breaks c m other → new ≡ other
+  one_run_of only seed breaks n c m new other same h k = one_run only seed breaks n m new other h (subst (λ n. HasRun only seed breaks n m other) (sym same) k)
 
-  one_stop : (only : Option (List ℕ)) (breaks : BreakMap) (limit : ℕ) (m : TimelineValue A) (ran : ℕ) (why : Stop) (new other : TimelineValue A)
-      → StopsAt only breaks limit m ran why new → StopsAt only breaks limit m ran why other → new ≡ other
-  one_stop only breaks limit m ran stop.Limit new other h k = one_run only breaks ran m new other h.1 k.1
-  one_stop only breaks limit m ran stop.Idle new other h k = one_run only breaks ran m new other h.1 k.1
-  one_stop only breaks limit m ran (stop.Break id) new other h k =
+  one_stop : (only : Option (List ℕ)) (seed : Option ℕ) (breaks : BreakMap) (limit : ℕ) (m : TimelineValue A) (ran : ℕ) (why : Stop) (new other : TimelineValue A)
+      → StopsAt only seed breaks limit m ran why new → StopsAt only seed breaks limit m ran why other → new ≡ other
+  one_stop only seed breaks limit m ran stop.Limit new other h k = one_run only seed breaks ran m new other h.1 k.1
+  one_stop only seed breaks limit m ran stop.Idle new other h k = one_run only seed breaks ran m new other h.1 k.1
+  one_stop only seed breaks limit m ran (stop.Break id) new other h k =
       let count : h.before ≡ k.before = omega (arith, h.count, k.count) in
-      one_step only h.mid k.mid new other h.step k.step (one_run_of only breaks h.before k.before m h.mid k.mid count h.earlier k.earlier) h.last k.last
+      one_step only seed h.mid k.mid new other h.step k.step (one_run_of only seed breaks h.before k.before m h.mid k.mid count h.earlier k.earlier) h.last k.last
 
-  one_ran : (m new other : TimelineValue A) (limit : ℕ) (only : Option (List ℕ)) (breaks : BreakMap) (r : Reply) → RunMoves m limit only breaks r new → RunMoves m limit only breaks r other → new ≡ other
-  one_ran m new other limit only breaks (reply.Refused fault.TimelineFull) h k = h.1 ∙ sym k.1
-  one_ran m new other limit only breaks (reply.Refused (fault.Step NoProcessor)) h k = h.2 ∙ sym k.2
-  one_ran m new other limit only breaks (reply.Refused (fault.Memory at)) h k =
+  one_ran : (m new other : TimelineValue A) (limit : ℕ) (only : Option (List ℕ)) (seed : Option ℕ) (breaks : BreakMap) (r : Reply) → RunMoves m limit only seed breaks r new → RunMoves m limit only seed breaks r other → new ≡ other
+  one_ran m new other limit only seed breaks (reply.Refused fault.TimelineFull) h k = h.1 ∙ sym k.1
+  one_ran m new other limit only seed breaks (reply.Refused (fault.Step NoProcessor)) h k = h.2 ∙ sym k.2
+  one_ran m new other limit only seed breaks (reply.Refused (fault.Memory at)) h k =
       let count : h.2.0 ≡ k.2.0 = omega (arith, h.2.3, k.2.3) in
-      one_run_of only breaks h.2.0 k.2.0 m new other count h.2.2 k.2.2
-  one_ran m new other limit only breaks (reply.Ran at kept ran why) h k = one_stop only breaks limit m ran why new other h.2 k.2
-  one_ran m new other limit only breaks _ h k = absurd h
+      one_run_of only seed breaks h.2.0 k.2.0 m new other count h.2.2 k.2.2
+  one_ran m new other limit only seed breaks (reply.Ran at kept ran why) h k = one_stop only seed breaks limit m ran why new other h.2 k.2
+  one_ran m new other limit only seed breaks _ h k = absurd h
 
 -- ---- the breakpoints
 
@@ -104,8 +104,8 @@ replies_tell A m new other command.Back r h k = one_machine new other (one_back 
 replies_tell A m new other command.Redo r h k = one_machine new other (one_redo m.timeline new.timeline other.timeline r h.0 k.0) (h.1 ∙ sym k.1)
 replies_tell A m new other (command.Jump n) r h k =
     one_machine new other (one_jump m.timeline new.timeline other.timeline n r h.0 k.0) (h.1 ∙ sym k.1)
-replies_tell A m new other (command.Run limit only) r h k =
-    one_machine new other (one_ran m.timeline new.timeline other.timeline limit only m.breaks r h.0 k.0) (h.1 ∙ sym k.1)
+replies_tell A m new other (command.Run limit only seed) r h k =
+    one_machine new other (one_ran m.timeline new.timeline other.timeline limit only seed m.breaks r h.0 k.0) (h.1 ∙ sym k.1)
 replies_tell A m new other (command.SetBreak c) r h k =
     one_machine new other (h.1 ∙ sym k.1) (one_set m.breaks new.breaks other.breaks c r h.0 k.0)
 replies_tell A m new other (command.ClearBreak id) r h k =

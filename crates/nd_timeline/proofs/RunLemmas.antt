@@ -1,11 +1,12 @@
 -- A run, step by step.
-use Rattle.std.proofs.Common.{◌≡◌, inl, inr, ℕ, ◌+◌, List, [], ◌∷◌, Option, Some, refl, sym, subst, ◌∙◌, add-one, arith}
+use Rattle.std.proofs.Common.{◌≡◌, inl, inr, ℕ, ◌+◌, List, [], ◌∷◌, Option, Some, None, refl, sym, ap, subst, ◌∙◌, add-one, arith}
 use Rattle.nd_protocol.specs.State.{ClusterState}
 use Rattle.nd_protocol.specs.Enabled.{IsEnabled}
 use Rattle.nd_protocol.specs.declared.step.Step.{Step}
-use Rattle.nd_cluster.specs.Choice.{Chooses, candidates_from}
+use Rattle.nd_cluster.specs.Choice.{Chooses, candidates_from, candidates_by}
 use Rattle.nd_breaks.specs.Breaks.{BreakMap, NoHit}
-use Rattle.nd_timeline.specs.Timeline.{TimelineValue, cluster_of, extended}
+use Rattle.nd_timeline.specs.Timeline.{TimelineValue, cluster_of}
+use Rattle.nd_timeline.specs.Seeds.{mix, tried}
 use Rattle.nd_timeline.specs.Moves.{HasRun, Goes}
 
 pub one_choice : {A : Type 0} (s : ClusterState) (xs : List (Step A)) (choice other : Option (Step A)) → Chooses s xs choice → Chooses s xs other → choice ≡ other
@@ -20,24 +21,33 @@ chosen_enabled s [] x h = absurd (cc (h))
 chosen_enabled s (y ∷ xs) x (inl h) = let same : y ≡ x = cc (h.1) in subst (IsEnabled s) same h.0
 chosen_enabled s (y ∷ xs) x (inr h) = chosen_enabled s xs x h.1
 
-pub goes_enabled : {A : Type 0} (only : Option (List ℕ)) (m new : TimelineValue A) (x : Step A) → Goes only m x new → IsEnabled (cluster_of m) x
-goes_enabled only m new x h = chosen_enabled (cluster_of m) (candidates_from (cluster_of m) m.cursor only) x h.chosen
+pub goes_enabled : {A : Type 0} (only : Option (List ℕ)) (seed : Option ℕ) (m new : TimelineValue A) (x : Step A) → Goes only seed m x new → IsEnabled (cluster_of m) x
+goes_enabled only seed m new x h = chosen_enabled (cluster_of m) (tried (cluster_of m) m.cursor only seed) x h.chosen
 
-module _ {A : Type 0} (only : Option (List ℕ)) (breaks : BreakMap) where
-  pub not_run : (m : TimelineValue A) → HasRun only breaks 0 m m
+-- ---- the steps that a run tries
+
+module _ {A : Type 0} (s k : ClusterState) (cursor at : ℕ) (only : Option (List ℕ)) (seed : Option ℕ) (choice : Option (Step A)) (is : k ≡ s) (here : at ≡ cursor) where
+  pub by_turn : seed ≡ None → Chooses k (candidates_from k at only) choice → Chooses s (tried s cursor only seed) choice
+  by_turn none h =
+      subst (λ (o : Option ℕ). Chooses s (tried s cursor only o) choice) (sym none)
+      (subst (λ (n : ℕ). Chooses s (candidates_from s n only) choice) here (subst (λ (q : ClusterState). Chooses q (candidates_from q at only) choice) is h))
+
+  pub by_lot : (given lot : ℕ) → seed ≡ Some given → lot ≡ mix given at → Chooses k (candidates_by k lot only) choice → Chooses s (tried s cursor only seed) choice
+  by_lot given lot some drawn h =
+      subst (λ (o : Option ℕ). Chooses s (tried s cursor only o) choice) (sym some)
+      (subst (λ (n : ℕ). Chooses s (candidates_by s n only) choice) (drawn ∙ ap (mix given) here) (subst (λ (q : ClusterState). Chooses q (candidates_by q lot only) choice) is h))
+
+-- ---- runs
+
+module _ {A : Type 0} (only : Option (List ℕ)) (seed : Option ℕ) (breaks : BreakMap) where
+  pub not_run : (m : TimelineValue A) → HasRun only seed breaks 0 m m
   unfolding HasRun
   not_run m = refl
 
   -- one more step, after which the run did not stop
-  pub run_on : (n : ℕ) (m mid new : TimelineValue A) (x : Step A) → HasRun only breaks n m mid → Goes only mid x new → NoHit breaks (cluster_of new) → HasRun only breaks (n + 1) m new
+  pub run_on : (n : ℕ) (m mid new : TimelineValue A) (x : Step A) → HasRun only seed breaks n m mid → Goes only seed mid x new → NoHit breaks (cluster_of new) → HasRun only seed breaks (n + 1) m new
   unfolding HasRun
-  run_on n m mid new x earlier last no_hit = subst (λ k. HasRun only breaks k m new) (sym (add-one n)) (record { mid = mid; step = x; earlier = earlier; last = last; no_hit = no_hit })
-
-  pub goes : (s new : TimelineValue A) (at : ℕ) (k : ClusterState) (x : Step A) → at ≡ s.cursor → k ≡ cluster_of s → Chooses k (candidates_from k at only) (Some x) → new ≡ extended s x → Goes only s x new
-  goes s new at k x is cluster chosen made = record {
-    chosen = subst (λ at. Chooses (cluster_of s) (candidates_from (cluster_of s) at only) (Some x)) is (subst (λ k. Chooses k (candidates_from k at only) (Some x)) cluster chosen);
-    made = made;
-  }
+  run_on n m mid new x earlier last no_hit = subst (λ k. HasRun only seed breaks k m new) (sym (add-one n)) (record { mid = mid; step = x; earlier = earlier; last = last; no_hit = no_hit })
 
 pub next_cursor : (a b n : ℕ) → a ≡ b + n → a + 1 ≡ b + (n + 1)
 next_cursor a b n is = omega (arith, is)

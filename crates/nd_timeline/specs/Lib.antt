@@ -4,5 +4,6 @@ pub mod Walks
 pub mod Moves
 pub mod Laws
 pub mod Reached
+pub mod Seeds
 pub mod Codes
 pub mod Checkpoints

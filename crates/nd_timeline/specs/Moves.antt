@@ -7,9 +7,10 @@ use Rattle.nd_protocol.specs.Enabled.{IsEnabled, IsRefused, MayWantMemory}
 use Rattle.nd_protocol.specs.declared.refusal.Refusal.TheVariants.{NoProcessor}
 use Rattle.nd_protocol.specs.declared.step.Step.{Step}
 use Rattle.nd_cluster.specs.Candidates.{candidates_among}
-use Rattle.nd_cluster.specs.Choice.{Chooses, AreRefused, candidates_from}
+use Rattle.nd_cluster.specs.Choice.{Chooses, AreRefused}
 use Rattle.nd_breaks.specs.Breaks.{BreakMap, NoHit, FirstHit, IsLeastFree, IsFull}
 use Rattle.nd_breaks.specs.Conditions.{ConditionValue}
+use Rattle.nd_timeline.specs.Seeds.{tried}
 use Rattle.nd_timeline.specs.Timeline.{TimelineValue, cluster_of, extended, moved_to}
 use Rattle.nd_timeline.specs.declared.fault.Fault.{Fault}
 use Rattle.nd_timeline.specs.declared.fault.Fault.TheVariants.{Step as of_step, Memory, AtStart, AtEnd, NoSuchPoint, TimelineFull, TooManyBreaks, NoBreak}
@@ -81,35 +82,35 @@ abbrev pub ListsMissing : {A : Type 0} → TimelineValue A → Option (List ℕ)
 ListsMissing m None = ⊥
 ListsMissing m (Some listed) = Any (λ p. length (cluster_of m).processors ≤ p) listed
 
--- a run may continue with this step, the first enabled one of the processors that it goes through; the turn is the cursor
-pub record Goes {A : Type 0} (only : Option (List ℕ)) (m : TimelineValue A) (x : Step A) (new : TimelineValue A) : Type 0 where
-  pub chosen : Chooses (cluster_of m) (candidates_from (cluster_of m) m.cursor only) (Some x)
+-- a run may continue with this step, the first enabled one of those that it tries
+pub record Goes {A : Type 0} (only : Option (List ℕ)) (seed : Option ℕ) (m : TimelineValue A) (x : Step A) (new : TimelineValue A) : Type 0 where
+  pub chosen : Chooses (cluster_of m) (tried (cluster_of m) m.cursor only seed) (Some x)
   pub made : new ≡ extended m x
 
 -- the run has executed this many steps, and no breakpoint held after any of them
-unfoldable pub HasRun : {A : Type 0} → Option (List ℕ) → BreakMap → ℕ → TimelineValue A → TimelineValue A → Type 0
-HasRun only breaks zero m new = new ≡ m
-HasRun only breaks (suc n) m new = record {
+unfoldable pub HasRun : {A : Type 0} → Option (List ℕ) → Option ℕ → BreakMap → ℕ → TimelineValue A → TimelineValue A → Type 0
+HasRun only seed breaks zero m new = new ≡ m
+HasRun only seed breaks (suc n) m new = record {
   mid : TimelineValue _;
   step : Step _;
-  earlier : HasRun only breaks n m mid;
-  last : Goes only mid step new;
+  earlier : HasRun only seed breaks n m mid;
+  last : Goes only seed mid step new;
   no_hit : NoHit breaks (cluster_of new);
 }
 
 -- why a run stops after `ran` steps
-abbrev pub StopsAt : {A : Type 0} → Option (List ℕ) → BreakMap → ℕ → TimelineValue A → ℕ → Stop → TimelineValue A → Type 0
-StopsAt only breaks limit m ran stop.Limit new = (ran ≡ limit) × HasRun only breaks ran m new
-StopsAt {A} only breaks limit m ran stop.Idle new =
-    (ran < limit) × HasRun only breaks ran m new × AreRefused {A = A} (cluster_of new) (candidates_among (cluster_of new) only)
-StopsAt {A} only breaks limit m ran (stop.Break id) new = record {
+abbrev pub StopsAt : {A : Type 0} → Option (List ℕ) → Option ℕ → BreakMap → ℕ → TimelineValue A → ℕ → Stop → TimelineValue A → Type 0
+StopsAt only seed breaks limit m ran stop.Limit new = (ran ≡ limit) × HasRun only seed breaks ran m new
+StopsAt {A} only seed breaks limit m ran stop.Idle new =
+    (ran < limit) × HasRun only seed breaks ran m new × AreRefused {A = A} (cluster_of new) (candidates_among (cluster_of new) only)
+StopsAt {A} only seed breaks limit m ran (stop.Break id) new = record {
   mid : TimelineValue A;
   step : Step A;
   before : ℕ;
   within : before < limit;
   count : ran ≡ before + 1;
-  earlier : HasRun only breaks before m mid;
-  last : Goes only mid step new;
+  earlier : HasRun only seed breaks before m mid;
+  last : Goes only seed mid step new;
   hit : FirstHit breaks (cluster_of new) id;
 }
 
@@ -118,14 +119,14 @@ abbrev pub Tells : {A : Type 0} → TimelineValue A → ℕ → ℕ → Type 0
 Tells new at kept = (at ≡ new.cursor) × (kept ≡ length new.kept)
 
 -- which replies a run may get, and the timeline after each; if memory runs out, the steps executed so far stay
-abbrev pub RunMoves : {A : Type 0} → TimelineValue A → ℕ → Option (List ℕ) → BreakMap → Reply → TimelineValue A → Type 0
-RunMoves m limit only breaks (Refused TimelineFull) new = (max_kept < m.cursor + limit) × (new ≡ m)
-RunMoves m limit only breaks (Refused (of_step NoProcessor)) new = (m.cursor + limit ≤ max_kept) × ListsMissing m only × (new ≡ m)
-RunMoves m limit only breaks (Refused (Memory at)) new =
-    (m.cursor + limit ≤ max_kept) × (ListsMissing m only → ⊥) × ((ran : ℕ) × (ran < limit) × HasRun only breaks ran m new × (at ≡ m.cursor + ran))
-RunMoves m limit only breaks (Ran at kept ran stop) new =
-    (m.cursor + limit ≤ max_kept) × (ListsMissing m only → ⊥) × StopsAt only breaks limit m ran stop new × Tells new at kept
-RunMoves m limit only breaks _ new = ⊥
+abbrev pub RunMoves : {A : Type 0} → TimelineValue A → ℕ → Option (List ℕ) → Option ℕ → BreakMap → Reply → TimelineValue A → Type 0
+RunMoves m limit only seed breaks (Refused TimelineFull) new = (max_kept < m.cursor + limit) × (new ≡ m)
+RunMoves m limit only seed breaks (Refused (of_step NoProcessor)) new = (m.cursor + limit ≤ max_kept) × ListsMissing m only × (new ≡ m)
+RunMoves m limit only seed breaks (Refused (Memory at)) new =
+    (m.cursor + limit ≤ max_kept) × (ListsMissing m only → ⊥) × ((ran : ℕ) × (ran < limit) × HasRun only seed breaks ran m new × (at ≡ m.cursor + ran))
+RunMoves m limit only seed breaks (Ran at kept ran stop) new =
+    (m.cursor + limit ≤ max_kept) × (ListsMissing m only → ⊥) × StopsAt only seed breaks limit m ran stop new × Tells new at kept
+RunMoves m limit only seed breaks _ new = ⊥
 
 -- ---- breakpoints
 
@@ -147,7 +148,7 @@ Moves m (command.Forward x) reply new = ForwardMoves m.timeline x reply new.time
 Moves m command.Back reply new = BackMoves m.timeline reply new.timeline × (new.breaks ≡ m.breaks)
 Moves m command.Redo reply new = RedoMoves m.timeline reply new.timeline × (new.breaks ≡ m.breaks)
 Moves m (command.Jump n) reply new = JumpMoves m.timeline n reply new.timeline × (new.breaks ≡ m.breaks)
-Moves m (command.Run limit only) reply new = RunMoves m.timeline limit only m.breaks reply new.timeline × (new.breaks ≡ m.breaks)
+Moves m (command.Run limit only seed) reply new = RunMoves m.timeline limit only seed m.breaks reply new.timeline × (new.breaks ≡ m.breaks)
 Moves m (command.SetBreak c) reply new = SetMoves m.breaks c reply new.breaks × (new.timeline ≡ m.timeline)
 Moves m (command.ClearBreak id) reply new = ClearMoves m.breaks id reply new.breaks × (new.timeline ≡ m.timeline)
 

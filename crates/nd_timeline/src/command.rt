@@ -17,10 +17,12 @@ pub enum Command<A: Allocator = Global> {
     /// Moves the cursor to a position.
     Jump(u64),
     /// Executes at most `limit` steps, each time the first enabled one, until a breakpoint holds. If
-    /// processors are listed, the run skips all others.
+    /// processors are listed, the run skips all others. With a seed the run begins each time with a
+    /// candidate that the seed and the cursor determine.
     Run {
         limit: u64,
         only: Option<Processors<A>>,
+        seed: Option<u64>,
     },
     /// Sets the condition as a breakpoint.
     SetBreak(BoxedCondition<A>),
@@ -67,9 +69,10 @@ impl<A: Allocator> Command<A> {
             Command::Back => Ok(Command::Back),
             Command::Redo => Ok(Command::Redo),
             Command::Jump(n) => Ok(Command::Jump(*n)),
-            Command::Run { limit, only } => Ok(Command::Run {
+            Command::Run { limit, only, seed } => Ok(Command::Run {
                 limit: *limit,
                 only: copied_processors(alloc, only)?,
+                seed: *seed,
             }),
             Command::SetBreak(b) => Ok(Command::SetBreak(b.copy(alloc)?)),
             Command::ClearBreak(id) => Ok(Command::ClearBreak(*id)),
@@ -86,12 +89,13 @@ impl<A: Allocator> Command<A> {
             (Command::Redo, Command::Redo) => true,
             (Command::Jump(n), Command::Jump(m)) => *n == *m,
             (
-                Command::Run { limit, only },
+                Command::Run { limit, only, seed },
                 Command::Run {
                     limit: most,
                     only: others,
+                    seed: another,
                 },
-            ) => *limit == *most && same_processors(only, others),
+            ) => *limit == *most && same_processors(only, others) && *seed == *another,
             (Command::SetBreak(b), Command::SetBreak(another)) => b.get().same(another.get()),
             (Command::ClearBreak(id), Command::ClearBreak(another)) => *id == *another,
             _ => false,

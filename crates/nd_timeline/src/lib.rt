@@ -9,6 +9,7 @@ mod machine;
 mod records;
 mod reply;
 mod run;
+mod seeds;
 mod timeline;
 mod walk;
 

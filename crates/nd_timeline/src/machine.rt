@@ -99,8 +99,11 @@ impl<A: Allocator + Copy> Machine<A> {
                 let moved = self.timeline.jump(*n);
                 self.moved(moved)
             }
-            Command::Run { limit, only } => {
-                match self.timeline.run(*limit, only.as_ref(), &self.breaks) {
+            Command::Run { limit, only, seed } => {
+                match self
+                    .timeline
+                    .run(*limit, only.as_ref(), *seed, &self.breaks)
+                {
                     Ok(Ran { ran, stop }) => Reply::Ran {
                         at: self.timeline.at(),
                         kept: self.timeline.kept(),

@@ -1,11 +1,18 @@
 //! Runs.
-ghost use Rattle.std.specs.Prelude.{◌≡◌, ◌↔◌, IsTrue, option_copied};
+ghost use Rattle.std.specs.Prelude.{◌≡◌, ◌↔◌, IfOk, IfSome, IsNone, IsTrue, option_copied, option_map};
+ghost use Rattle.nd_cluster.specs.Candidates.{candidates_among};
+ghost use Rattle.nd_cluster.specs.Choice.{AreRefused, Chooses};
+ghost use Rattle.nd_cluster.specs.Records.{IsPlanned};
+ghost use Rattle.nd_timeline.specs.Seeds.{tried};
+ghost use Rattle.nd_timeline.specs.Timeline.{cluster_of};
 ghost use Rattle.nd_timeline.specs.Moves.{ListsMissing, ran_reply, RunMoves};
 
+use crate::seeds::mix;
 use crate::timeline::MAX_KEPT;
 use crate::{Fault, Ran, Stop, Timeline};
 use nd_breaks::Breaks;
-use nd_protocol::{Processors, Refusal};
+use nd_cluster::Record;
+use nd_protocol::{NoMemory, Processors, Refusal};
 use std::alloc::Allocator;
 
 impl<A: Allocator + Copy> Timeline<A> {
@@ -20,15 +27,39 @@ impl<A: Allocator + Copy> Timeline<A> {
         }
     }
 
+    // Returns the record of the step that a run executes next; none if the run is idle.
+    fn next_planned(
+        &self,
+        only: Option<&Processors<A>>,
+        seed: Option<u64>,
+    ) -> Result<Option<Record<A>>, NoMemory>
+        ensures chosen { IfOk result (λ r. Chooses (cluster_of self.now)
+            (tried (cluster_of self.now) self.now.cursor (option_copied only.entry) seed)
+            (option_map (λ (r : Record A). r.step) r)) }
+        ensures planned { IfOk result (λ r. IfSome r (λ r. IsPlanned r (cluster_of self.now))) }
+        ensures none { IfOk result (λ r. IsNone r
+            ↔ AreRefused {A = A} (cluster_of self.now)
+            (candidates_among (cluster_of self.now) (option_copied only.entry))) }
+    {
+        let cluster = self.cluster();
+        let at = self.at();
+        match seed {
+            None => cluster.first_planned(at, only),
+            Some(seed) => cluster.drawn_planned(mix(seed, at), only),
+        }
+    }
+
     /// Executes at most `limit` steps, each time the first enabled one, until a breakpoint holds. If
-    /// processors are listed, the run skips all others.
+    /// processors are listed, the run skips all others. With a seed the run begins each time with a candidate
+    /// that the seed and the cursor determine.
     pub fn run(
         &mut self,
         limit: u64,
         only: Option<&Processors<A>>,
+        seed: Option<u64>,
         breaks: &Breaks<A>,
     ) -> Result<Ran, Fault>
-        ensures { RunMoves self.old limit (option_copied only.entry) breaks.now
+        ensures { RunMoves self.old limit (option_copied only.entry) seed breaks.now
             (ran_reply result self.new) self.new }
     {
         if limit > MAX_KEPT as u64 - self.at() {
@@ -39,7 +70,7 @@ impl<A: Allocator + Copy> Timeline<A> {
         }
         for ran in 0..limit {
             let at = self.at();
-            let Ok(planned) = self.cluster().first_planned(at, only) else {
+            let Ok(planned) = self.next_planned(only, seed) else {
                 return Err(Fault::Memory { at });
             };
             let Some(record) = planned else {

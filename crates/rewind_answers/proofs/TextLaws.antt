@@ -28,6 +28,11 @@ pub tells : (P : Data → Type 0) (d : Data) (t : Result (Vec ℕ Global) AllocE
 tells P d (Ok b) text may = (d, may, text)
 tells P d (Err e) text may = text
 
+-- the same text, of which less is said
+pub tells_so : (P Q : Data → Type 0) (t : Result (Vec ℕ Global) AllocError) → ((d : Data) → P d → Q d) → IfOk t (λ b. TellsOne P b.items) → IfOk t (λ b. TellsOne Q b.items)
+tells_so P Q (Ok b) so h = (h.0, so h.0 h.1, h.2)
+tells_so P Q (Err e) so h = h
+
 -- ---- queries
 
 -- a query whose reply is written as text

@@ -46,8 +46,9 @@ use Rattle.rewind_forms.specs.declared.asked.Asked.{Asked}
 use Rattle.rewind_forms.specs.declared.asked.Asked.TheVariants.{Do, Tell}
 use Rattle.rewind_forms.specs.declared.queries.Search.{Search as Searching}
 use Rattle.rewind_forms.specs.declared.queries.Query.{Query}
-use Rattle.rewind_forms.specs.declared.queries.Query.TheVariants.{State, Count, Before, View, Frontier, Passed, Search, Export, Why, Changes, Step, Candidates, Effect, Turns, FrontierAt, WhyBefore}
+use Rattle.rewind_forms.specs.declared.queries.Query.TheVariants.{State, Count, Before, View, Frontier, Passed, Search, Export, Why, Changes, Step, Candidates, Effect, Turns, FrontierAt, WhyBefore, Reach}
 use Rattle.rewind_answers.specs.Ahead.{CandidatesReply, FrontierAtReply}
+use Rattle.rewind_answers.specs.Reached.{ReachReply}
 use Rattle.rewind_answers.specs.Explained.{WhyReply, WhyBeforeReply, ChangesReply, ExportReply, StepReply, EffectReply, TurnsReply}
 
 -- a machine, and how many of its commands are logged
@@ -181,6 +182,7 @@ QueryReply m (Effect to) reply = EffectReply m to reply
 QueryReply m (Turns asked) reply = TurnsReply m asked reply
 QueryReply m (FrontierAt q l) reply = FrontierAtReply (cluster_of m) q l reply
 QueryReply m (WhyBefore q x) reply = WhyBeforeReply (cluster_of m) q x reply
+QueryReply m (Reach asked) reply = ReachReply (cluster_of m) asked reply
 
 -- The reply to a command: that of a move of the machine, with the names of the graph, and the command is logged; or LogFull,
 -- exactly if the log is full; or out of memory.

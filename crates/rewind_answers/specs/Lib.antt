@@ -1,4 +1,5 @@
 pub mod Answers
 pub mod Ahead
 pub mod Explained
+pub mod Reached
 pub mod Stages

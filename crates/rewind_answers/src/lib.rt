@@ -6,6 +6,7 @@ mod ahead;
 mod answer;
 mod kept;
 mod query;
+mod reached;
 mod stage;
 mod why;
 

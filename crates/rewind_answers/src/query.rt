@@ -9,6 +9,7 @@ ghost use Rattle.rewind_answers.specs.Answers.{QueryReply, BeforeReply, ViewRepl
 use crate::ahead::{answer_candidates, answer_frontier_at};
 use crate::answer::cluster;
 use crate::kept::{answer_effect, answer_export, answer_step};
+use crate::reached::answer_reach;
 use crate::why::{answer_changes, answer_turns, answer_why, answer_why_before};
 use nd_cluster::Cluster;
 use nd_history::{OpenGate, SearchFault, search_in};
@@ -184,5 +185,6 @@ pub fn answer_query<R: Threads + Sync>(
         Query::Turns(asked) => answer_turns(alloc, state.timeline(), asked),
         Query::FrontierAt(q, location) => answer_frontier_at(alloc, cluster, *q, *location),
         Query::WhyBefore(q, point) => answer_why_before(alloc, cluster, *q, point),
+        Query::Reach(asked) => answer_reach(alloc, cluster, asked),
     }
 }

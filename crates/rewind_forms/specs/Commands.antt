@@ -19,14 +19,29 @@ unfoldable pub jump_of : Data → Result (Command Global) LineFault
 jump_of d = given BadShape (whole_at (codes "to") d) (λ to. Ok (Jump to))
 
 unfoldable pub run_of : Data → Result (Command Global) LineFault
-run_of d = given BadShape (whole_at (codes "limit") d) (λ limit. Ok (Run limit None))
+run_of d = given BadShape (whole_at (codes "limit") d) (λ limit. Ok (Run limit None None))
 
 -- the run of some processors
 unfoldable pub run_only_of : Data → Result (Command Global) LineFault
 run_only_of d =
     given BadShape (whole_at (codes "limit") d) (λ limit.
     given BadShape (processors_at (codes "only") d) (λ only.
-    Ok (Run limit (Some only))))
+    Ok (Run limit (Some only) None)))
+
+-- the run that chooses by a seed
+unfoldable pub run_by_seed_of : Data → Result (Command Global) LineFault
+run_by_seed_of d =
+    given BadShape (whole_at (codes "limit") d) (λ limit.
+    given BadShape (whole_at (codes "seed") d) (λ seed.
+    Ok (Run limit None (Some seed))))
+
+-- the run of some processors that chooses by a seed
+unfoldable pub run_only_by_seed_of : Data → Result (Command Global) LineFault
+run_only_by_seed_of d =
+    given BadShape (whole_at (codes "limit") d) (λ limit.
+    given BadShape (whole_at (codes "seed") d) (λ seed.
+    given BadShape (processors_at (codes "only") d) (λ only.
+    Ok (Run limit (Some only) (Some seed)))))
 
 unfoldable pub set_of : Version → Dataflow → Data → Result (Command Global) LineFault
 set_of v g d =
@@ -44,5 +59,7 @@ command_of v g form.Redo d = Ok Redo
 command_of v g form.Jump d = jump_of d
 command_of v g form.Run d = run_of d
 command_of v g form.RunOnly d = run_only_of d
+command_of v g form.RunBySeed d = run_by_seed_of d
+command_of v g form.RunOnlyBySeed d = run_only_by_seed_of d
 command_of v g form.Break d = set_of v g d
 command_of v g form.Unbreak d = clear_of d

@@ -5,7 +5,7 @@ use Rattle.serde_json.specs.Data.{Data}
 use Rattle.nd_json.specs.Forms.{has_keys, text_at}
 use Rattle.rewind_forms.specs.Versions.{includes}
 use Rattle.rewind_forms.specs.declared.version.Version.{Version}
-use Rattle.rewind_forms.specs.declared.version.Version.TheVariants.{First, Second, Third, Fourth, Fifth, Sixth}
+use Rattle.rewind_forms.specs.declared.version.Version.TheVariants.{First, Second, Third, Fourth, Fifth, Sixth, Seventh}
 use Rattle.rewind_forms.specs.declared.form.Form.{Form}
 use Rattle.rewind_forms.specs.declared.form.Form.TheVariants.{Step, Command, Query}
 use Rattle.rewind_forms.specs.declared.form.StepForm.{StepForm}
@@ -45,6 +45,8 @@ commands =
     ∷ (codes "jump", codes "do" ∷ codes "to" ∷ [], command.Jump)
     ∷ (codes "run", codes "do" ∷ codes "limit" ∷ [], command.Run)
     ∷ (codes "run", codes "do" ∷ codes "limit" ∷ codes "only" ∷ [], command.RunOnly)
+    ∷ (codes "run", codes "do" ∷ codes "limit" ∷ codes "seed" ∷ [], command.RunBySeed)
+    ∷ (codes "run", codes "do" ∷ codes "limit" ∷ codes "only" ∷ codes "seed" ∷ [], command.RunOnlyBySeed)
     ∷ (codes "break", codes "do" ∷ codes "when" ∷ [], command.Break)
     ∷ (codes "unbreak", codes "do" ∷ codes "id" ∷ [], command.Unbreak)
     ∷ []
@@ -67,6 +69,8 @@ queries =
     ∷ (codes "turns", codes "do" ∷ codes "hi" ∷ codes "lo" ∷ codes "when" ∷ [], query.Turns)
     ∷ (codes "frontier", codes "at" ∷ codes "do" ∷ codes "q" ∷ [], query.FrontierAt)
     ∷ (codes "why", codes "at" ∷ codes "before" ∷ codes "do" ∷ codes "q" ∷ codes "time" ∷ [], query.WhyBefore)
+    ∷ (codes "reach", codes "do" ∷ codes "limit" ∷ codes "when" ∷ [], query.Reach)
+    ∷ (codes "reach", codes "do" ∷ codes "limit" ∷ codes "when" ∷ codes "with" ∷ [], query.ReachWith)
     ∷ []
 
 -- ---- the first version whose scripts have a form
@@ -89,6 +93,8 @@ command_since command.Redo = First
 command_since command.Jump = First
 command_since command.Run = First
 command_since command.RunOnly = Fifth
+command_since command.RunBySeed = Seventh
+command_since command.RunOnlyBySeed = Seventh
 command_since command.Break = First
 command_since command.Unbreak = First
 
@@ -109,6 +115,8 @@ query_since query.Effect = Fourth
 query_since query.Turns = Fourth
 query_since query.FrontierAt = Fourth
 query_since query.WhyBefore = Fourth
+query_since query.Reach = Seventh
+query_since query.ReachWith = Seventh
 
 abbrev pub since : Form → Version
 since (Step form) = step_since form

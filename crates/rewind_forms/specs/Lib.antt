@@ -9,6 +9,7 @@ pub mod Atoms
 pub mod Conditions
 pub mod Commands
 pub mod Queries
+pub mod Allowed
 pub mod Asked
 pub mod Replies
 pub mod Objects

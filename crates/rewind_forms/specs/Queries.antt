@@ -7,13 +7,14 @@ use Rattle.nd_graph.specs.Graph.{Dataflow}
 use Rattle.rewind_forms.specs.Forms.{given, after, point_at}
 use Rattle.rewind_forms.specs.Places.{location_named, time_of, point_there}
 use Rattle.rewind_forms.specs.Conditions.{condition_of}
+use Rattle.rewind_forms.specs.Allowed.{allowed_at, nothing_allowed}
 use Rattle.rewind_forms.specs.declared.version.Version.{Version}
 use Rattle.rewind_forms.specs.declared.form.QueryForm.{QueryForm}
 use Rattle.rewind_forms.specs.declared.form.QueryForm.TheVariants as form
 use Rattle.rewind_forms.specs.declared.fault.LineFault.{LineFault}
 use Rattle.rewind_forms.specs.declared.fault.LineFault.TheVariants.{BadShape, UnknownName, BadTime}
 use Rattle.rewind_forms.specs.declared.queries.Query.{Query}
-use Rattle.rewind_forms.specs.declared.queries.Query.TheVariants.{State, Count, Before, View, Frontier, Passed, Search, Export, Why, Changes, Step, Candidates, Effect, Turns, FrontierAt, WhyBefore}
+use Rattle.rewind_forms.specs.declared.queries.Query.TheVariants.{State, Count, Before, View, Frontier, Passed, Search, Export, Why, Changes, Step, Candidates, Effect, Turns, FrontierAt, WhyBefore, Reach}
 
 unfoldable pub count_of : Dataflow → Data → Result Query LineFault
 count_of g d = after (point_there g d) (λ point. Ok (Count point))
@@ -93,6 +94,21 @@ why_before_of g d =
     after (point_there g d) (λ point.
     Ok (if strictly then WhyBefore q point else Why q point))))
 
+unfoldable pub reach_of : Version → Dataflow → Data → Result Query LineFault
+reach_of v g d =
+    given BadShape (whole_at (codes "limit") d) (λ limit.
+    given BadShape (get (codes "when") d) (λ when.
+    after (condition_of v g when) (λ condition.
+    Ok (Reach (record { when = condition; limit = limit; allowed = nothing_allowed })))))
+
+unfoldable pub reach_with_of : Version → Dataflow → Data → Result Query LineFault
+reach_with_of v g d =
+    given BadShape (whole_at (codes "limit") d) (λ limit.
+    given BadShape (get (codes "when") d) (λ when.
+    given BadShape (allowed_at (codes "with") d) (λ allowed.
+    after (condition_of v g when) (λ condition.
+    Ok (Reach (record { when = condition; limit = limit; allowed = allowed }))))))
+
 -- the query of a form
 abbrev pub query_of : Version → Dataflow → QueryForm → Data → Result Query LineFault
 query_of v g form.State d = Ok State
@@ -111,3 +127,5 @@ query_of v g form.Effect d = effect_of d
 query_of v g form.Turns d = turns_of v g d
 query_of v g form.FrontierAt d = frontier_at_of g d
 query_of v g form.WhyBefore d = why_before_of g d
+query_of v g form.Reach d = reach_of v g d
+query_of v g form.ReachWith d = reach_with_of v g d

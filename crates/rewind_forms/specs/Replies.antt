@@ -181,6 +181,15 @@ turns at_lo shown true = object (member (codes "at_lo") (boolean at_lo)
 abbrev pub times : Data → Data
 times shown = object (member (codes "ok") (boolean true) (member (codes "times") shown no_members))
 
+-- {"ok":true,"steps":shown}
+abbrev pub way : Data → Data
+way shown = object (member (codes "ok") (boolean true) (member (codes "steps") shown no_members))
+
+-- {"ok":true,"states":n,"steps":null,"whole":b}
+abbrev pub no_way : ℕ → Bool → Data
+no_way states whole = object (member (codes "ok") (boolean true) (member (codes "states") (number (unsigned states))
+    (member (codes "steps") (or_null None) (member (codes "whole") (boolean whole) no_members))))
+
 -- {"finished":f,"ok":true,"passed":p,"reasons":shown}
 abbrev pub why : Bool → Bool → Data → Data
 why finished passed shown = object (member (codes "finished") (boolean finished)

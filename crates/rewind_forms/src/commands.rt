@@ -2,7 +2,7 @@
 ghost use Rattle.std.specs.Prelude.{◌≡◌, Ok, IfOk, IfErr};
 ghost use Rattle.serde_json.specs.View.{view};
 ghost use Rattle.rewind_forms.specs.Forms.{FailsWith};
-ghost use Rattle.rewind_forms.specs.Commands.{jump_of as jump_in, run_of as run_in, run_only_of as run_only_in, set_of as set_in, clear_of as clear_in, command_of as command_in};
+ghost use Rattle.rewind_forms.specs.Commands.{jump_of as jump_in, run_of as run_in, run_only_of as run_only_in, run_by_seed_of as run_by_seed_in, run_only_by_seed_of as run_only_by_seed_in, set_of as set_in, clear_of as clear_in, command_of as command_in};
 
 use crate::conditions::condition_of;
 use crate::numbers::processors_at;
@@ -27,7 +27,11 @@ fn run_of(value: &Value) -> Result<Command, LineFault>
     ensures { result ≡ run_in (view value.now) }
 {
     let limit = whole_at(value, "limit").ok_or(LineFault::BadShape)?;
-    Ok(Command::Run { limit, only: None })
+    Ok(Command::Run {
+        limit,
+        only: None,
+        seed: None,
+    })
 }
 
 // Returns a run of some processors.
@@ -41,6 +45,37 @@ fn run_only_of(alloc: Global, value: &Value) -> Result<Command, LineFault>
     Ok(Command::Run {
         limit,
         only: Some(only),
+        seed: None,
+    })
+}
+
+// Returns a run that chooses by a seed.
+#[tactic(auto, unfolding(crate::specs::Commands::run_by_seed_of))]
+fn run_by_seed_of(value: &Value) -> Result<Command, LineFault>
+    ensures { result ≡ run_by_seed_in (view value.now) }
+{
+    let limit = whole_at(value, "limit").ok_or(LineFault::BadShape)?;
+    let seed = whole_at(value, "seed").ok_or(LineFault::BadShape)?;
+    Ok(Command::Run {
+        limit,
+        only: None,
+        seed: Some(seed),
+    })
+}
+
+// Returns a run of some processors that chooses by a seed.
+#[tactic(auto, unfolding(crate::specs::Commands::run_only_by_seed_of))]
+fn run_only_by_seed_of(alloc: Global, value: &Value) -> Result<Command, LineFault>
+    ensures ok { IfOk result (λ c. run_only_by_seed_in (view value.now) ≡ Ok c) }
+    ensures err { IfErr result (FailsWith (run_only_by_seed_in (view value.now))) }
+{
+    let limit = whole_at(value, "limit").ok_or(LineFault::BadShape)?;
+    let seed = whole_at(value, "seed").ok_or(LineFault::BadShape)?;
+    let only = processors_at(alloc, value, "only")?.ok_or(LineFault::BadShape)?;
+    Ok(Command::Run {
+        limit,
+        only: Some(only),
+        seed: Some(seed),
     })
 }
 
@@ -85,6 +120,8 @@ pub fn command_of(
         CommandForm::Jump => jump_of(value),
         CommandForm::Run => run_of(value),
         CommandForm::RunOnly => run_only_of(alloc, value),
+        CommandForm::RunBySeed => run_by_seed_of(value),
+        CommandForm::RunOnlyBySeed => run_only_by_seed_of(alloc, value),
         CommandForm::Break => set_of(alloc, version, graph, value),
         CommandForm::Unbreak => clear_of(value),
     }

@@ -44,6 +44,10 @@ pub enum CommandForm {
     Run,
     /// A run of some processors.
     RunOnly,
+    /// A run that chooses by a seed.
+    RunBySeed,
+    /// A run of some processors that chooses by a seed.
+    RunOnlyBySeed,
     Break,
     Unbreak,
 }
@@ -70,6 +74,9 @@ pub enum QueryForm {
     /// Why a processor does not consider everything strictly before a pointstamp finished, if the
     /// key `before` is true.
     WhyBefore,
+    Reach,
+    /// The same with the key `with`, which lets users feed or release.
+    ReachWith,
 }
 
 impl StepForm {
@@ -103,6 +110,7 @@ impl CommandForm {
             | CommandForm::Break
             | CommandForm::Unbreak => Version::First,
             CommandForm::RunOnly => Version::Fifth,
+            CommandForm::RunBySeed | CommandForm::RunOnlyBySeed => Version::Seventh,
         }
     }
 }
@@ -127,6 +135,7 @@ impl QueryForm {
             | QueryForm::Turns
             | QueryForm::FrontierAt
             | QueryForm::WhyBefore => Version::Fourth,
+            QueryForm::Reach | QueryForm::ReachWith => Version::Seventh,
         }
     }
 }
@@ -221,6 +230,10 @@ fn command_form(word: &str, value: &Value) -> Option<CommandForm>
         "jump" if has_keys(value, &["do", "to"]) => Some(CommandForm::Jump),
         "run" if has_keys(value, &["do", "limit"]) => Some(CommandForm::Run),
         "run" if has_keys(value, &["do", "limit", "only"]) => Some(CommandForm::RunOnly),
+        "run" if has_keys(value, &["do", "limit", "seed"]) => Some(CommandForm::RunBySeed),
+        "run" if has_keys(value, &["do", "limit", "only", "seed"]) => {
+            Some(CommandForm::RunOnlyBySeed)
+        }
         "break" if has_keys(value, &["do", "when"]) => Some(CommandForm::Break),
         "unbreak" if has_keys(value, &["do", "id"]) => Some(CommandForm::Unbreak),
         _ => None,
@@ -253,6 +266,10 @@ fn query_form(word: &str, value: &Value) -> Option<QueryForm>
         "frontier" if has_keys(value, &["at", "do", "q"]) => Some(QueryForm::FrontierAt),
         "why" if has_keys(value, &["at", "before", "do", "q", "time"]) => {
             Some(QueryForm::WhyBefore)
+        }
+        "reach" if has_keys(value, &["do", "limit", "when"]) => Some(QueryForm::Reach),
+        "reach" if has_keys(value, &["do", "limit", "when", "with"]) => {
+            Some(QueryForm::ReachWith)
         }
         _ => None,
     }

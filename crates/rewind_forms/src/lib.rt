@@ -1,6 +1,7 @@
 //! What the lines of a script ask for, and how replies are written.
 #![tactic(auto)]
 
+mod allowed;
 mod asked;
 mod atoms;
 mod candidates;
@@ -33,7 +34,7 @@ pub use form::{CommandForm, Form, QueryForm, StepForm};
 pub use laws::steps_are_their_objects;
 pub use lists::{Counts, Entries, KeptSteps};
 pub use members::{End, Member, Members, Object};
-pub use queries::{Query, Search, Turns, ViewChanges};
+pub use queries::{Query, Reach, Search, Turns, ViewChanges};
 pub use replies::{ErrorReply, GraphReply, line_fault, version_reply};
 pub use shown::{Names, NoNames, Place, Shown};
 pub use steps::read_step;

@@ -4,8 +4,9 @@ ghost use Rattle.serde_json.specs.View.{view};
 ghost use Rattle.rewind_forms.specs.Forms.{FailsWith};
 ghost use Rattle.rewind_forms.specs.Queries.{count_of as count_in, before_of as before_in, view_of as view_in, frontier_of as frontier_in, passed_of as passed_in, search_of as search_in, query_of as query_in};
 ghost use Rattle.rewind_forms.specs.Queries.{why_of as why_in, changes_of as changes_in, kept_step_of as kept_step_in};
-ghost use Rattle.rewind_forms.specs.Queries.{effect_of as effect_in, turns_of as turns_in, frontier_at_of as frontier_at_in, why_before_of as why_before_in};
+ghost use Rattle.rewind_forms.specs.Queries.{effect_of as effect_in, turns_of as turns_in, frontier_at_of as frontier_at_in, why_before_of as why_before_in, reach_of as reach_in, reach_with_of as reach_with_in};
 
+use crate::allowed::{NOTHING, allowed_at};
 use crate::conditions::condition_of;
 use crate::places::{location_named, time_of};
 use crate::points::{point_at, point_there};
@@ -14,6 +15,7 @@ use nd_breaks::Condition;
 use nd_graph::Graph;
 use nd_json::{boolean_at, small_at, text_at, whole_at};
 use nd_paths::Pointstamp;
+use nd_reach::Allowed;
 use serde_json::Value;
 use std::alloc::Global;
 
@@ -41,6 +43,14 @@ pub struct ViewChanges {
     pub point: Pointstamp,
     pub lo: u64,
     pub hi: u64,
+}
+
+/// A search for the shortest list of moves from the cursor to a state at which a condition holds, among the first `limit` states.
+#[derive(Drop)]
+pub struct Reach {
+    pub when: Condition,
+    pub limit: u64,
+    pub allowed: Allowed,
 }
 
 /// A query, which changes nothing.
@@ -78,6 +88,8 @@ pub enum Query {
     FrontierAt(u32, usize),
     /// The reasons why a processor's view counts something strictly before a pointstamp.
     WhyBefore(u32, Pointstamp),
+    /// The steps by which a condition can still come to hold.
+    Reach(Reach),
 }
 
 #[tactic(auto, unfolding(crate::specs::Queries::count_of))]
@@ -241,6 +253,47 @@ fn why_before_of(alloc: Global, graph: &Graph, value: &Value) -> Result<Query, L
     }
 }
 
+#[tactic(auto, unfolding(crate::specs::Queries::reach_of))]
+fn reach_of(
+    alloc: Global,
+    version: Version,
+    graph: &Graph,
+    value: &Value,
+) -> Result<Query, LineFault>
+    ensures ok { IfOk result (λ c. reach_in version graph.now (view value.now) ≡ Ok c) }
+    ensures err { IfErr result (FailsWith (reach_in version graph.now (view value.now))) }
+{
+    let limit = whole_at(value, "limit").ok_or(LineFault::BadShape)?;
+    let shown = value.get("when").ok_or(LineFault::BadShape)?;
+    let when = condition_of(alloc, version, graph, shown)?;
+    Ok(Query::Reach(Reach {
+        when,
+        limit,
+        allowed: NOTHING,
+    }))
+}
+
+#[tactic(auto, unfolding(crate::specs::Queries::reach_with_of))]
+fn reach_with_of(
+    alloc: Global,
+    version: Version,
+    graph: &Graph,
+    value: &Value,
+) -> Result<Query, LineFault>
+    ensures ok { IfOk result (λ c. reach_with_in version graph.now (view value.now) ≡ Ok c) }
+    ensures err { IfErr result (FailsWith (reach_with_in version graph.now (view value.now))) }
+{
+    let limit = whole_at(value, "limit").ok_or(LineFault::BadShape)?;
+    let shown = value.get("when").ok_or(LineFault::BadShape)?;
+    let allowed = allowed_at(value, "with").ok_or(LineFault::BadShape)?;
+    let when = condition_of(alloc, version, graph, shown)?;
+    Ok(Query::Reach(Reach {
+        when,
+        limit,
+        allowed,
+    }))
+}
+
 /// Returns the query of this form that the value describes, for the graph.
 pub fn query_of(
     alloc: Global,
@@ -269,5 +322,7 @@ pub fn query_of(
         QueryForm::Turns => turns_of(alloc, version, graph, value),
         QueryForm::FrontierAt => frontier_at_of(graph, value),
         QueryForm::WhyBefore => why_before_of(alloc, graph, value),
+        QueryForm::Reach => reach_of(alloc, version, graph, value),
+        QueryForm::ReachWith => reach_with_of(alloc, version, graph, value),
     }
 }

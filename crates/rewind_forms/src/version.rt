@@ -22,6 +22,8 @@ pub enum Version {
     Fifth,
     /// Adds graphs of 256 locations, opaque vertices, sends, and releases that keep the capability.
     Sixth,
+    /// Adds queries for what can still happen, and runs by a seed.
+    Seventh,
 }
 
 impl Version {
@@ -36,6 +38,7 @@ impl Version {
             Version::Fourth => 4,
             Version::Fifth => 5,
             Version::Sixth => 6,
+            Version::Seventh => 7,
         }
     }
 
@@ -62,6 +65,8 @@ fn numbered(number: u64) -> Option<Version>
         Some(Version::Fifth)
     } else if number == 6 {
         Some(Version::Sixth)
+    } else if number == 7 {
+        Some(Version::Seventh)
     } else {
         None
     }

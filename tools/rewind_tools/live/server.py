@@ -14,6 +14,7 @@ from urllib.parse import urlsplit
 
 from rewind_tools import opening
 from rewind_tools.dropped import Dropped
+from rewind_tools.live import finishing
 from rewind_tools.live.pictures import Pictures
 from rewind_tools.page import FILES, live_page, part
 from rewind_tools.script import COMMANDS, STEPS
@@ -101,7 +102,7 @@ class Live:
         self.check_revision(asked)
         reply, count = self.dropped.ask(value, self.at, self.kept)
         reply.update({"ran": reply["ran"] + asked.get("ran", 0)} if "ran" in reply else {})
-        words = self.words(value, reply)
+        words = self.words(value, reply) + self.round_words(value, reply)
         before = self.at, self.kept
         self.note(value, reply)
         has_moved = (self.at, self.kept) != before
@@ -119,6 +120,13 @@ class Live:
         else:
             said = self.teller.told(value, reply, None)
         return [it.replace(FIRM, " ") for it in said]
+
+    def round_words(self, value, reply):
+        """What else there is to say of a run that stopped at its limit: that a record goes round."""
+        if value["do"] != "run" or reply.get("stop") != "limit":
+            return []
+        said = finishing.rounds(self.session, self.teller.graph, reply, "seed" in value)
+        return [said] if said else []
 
     def bring_back(self, asked):
         """Executes the run before the last discard again."""
@@ -175,6 +183,8 @@ class Live:
             return self.bring_back(asked)
         if path == "why":
             return self.pictures.why(asked)
+        if path == "finish":
+            return finishing.finish(self.session, self.teller.graph, asked)
         if path == "save":
             self.saved_at = self.revision
             return {"script": script_of(self.session), "words": self.session.words}

@@ -11,7 +11,7 @@ from rewind_tools.showing.graphs import graph_svg, laid_out
 FOLDER = os.path.dirname(os.path.abspath(__file__))
 SHARED = ("base.js", "steps.js", "drawing.js", "panels.js")
 SCRIPTS = {
-    "live": (*SHARED, "held.js", "live.js", "keys.js"),
+    "live": (*SHARED, "held.js", "finishing.js", "live.js", "keys.js"),
     "recorded": (*SHARED, "recorded.js", "keys.js"),
 }  # fmt: skip
 FILES = {

@@ -3,7 +3,7 @@
 const by = (id) => document.getElementById(id);
 const about = JSON.parse(document.body.dataset.about);
 const SVG = "http://www.w3.org/2000/svg";
-const GREATEST = (1n << 63n) - 1n, GREATEST_COUNTER = (1n << 32n) - 1n;
+const GREATEST = (1n << 63n) - 1n, GREATEST_COUNTER = (1n << 32n) - 1n, GREATEST_SEED = (1n << 64n) - 1n;
 // The picture that is shown, and the one before it, if one step leads from that to this.
 let picture = null, before = null;
 

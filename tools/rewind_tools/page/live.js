@@ -149,12 +149,12 @@ function nextPiece(piece, taken) {
 
 // A run in pieces, so that it shows how far it is and can be cancelled. A short run is one question.
 async function runInPieces(text) {
-  const line = JSON.parse(text), limit = line.limit;
+  const { limit } = JSON.parse(text);
   if (limit <= FIRST_PIECE) return command(text);
   let ran = 0, piece = FIRST_PIECE, told = null, discarded = null;
   do {
     const begun = performance.now(), count = Math.min(piece, limit - ran);
-    told = await asked("command", { line: textOf({ ...line, limit: count }), revision, sight: null, ran });
+    told = await asked("command", { line: text.replace(/"limit":\d+/, `"limit":${count}`), revision, sight: null, ran });
     revision = told.revision;
     discarded = discarded || told.discarded;
     if (told.refused) break;
@@ -328,11 +328,25 @@ function limit() {
   return null;
 }
 
-// Runs the processors that are chosen, or all if none is.
+// The seed of a run by lot, as the text of a key and its value; empty for a run in turn, null if it is no seed.
+function seedText() {
+  if (by("choice").selectedIndex === 0) return "";
+  const given = numbersOf(by("seed").value, 0n, GREATEST_SEED);
+  if (!given.fault && given.numbers.length === 1) return `,"seed":${given.numbers[0]}`;
+  say(`by lot: which seed? ${given.fault || "one number is wanted"}`, true);
+  return null;
+}
+
+// Runs the processors that are chosen, or all if none is. The line is a text, since a browser would round the seed.
 function run(count) {
-  if (count === null) return undefined;
+  const seed = seedText();
+  if (count === null || seed === null) return undefined;
   const only = [...onlyChosen].sort((one, other) => one - other);
-  return execute({ do: "run", limit: count, ...(only.length ? { only } : {}) }, runInPieces);
+  return execute(`{"do":"run","limit":${count}${only.length ? `,"only":[${only}]` : ""}${seed}}`, runInPieces);
+}
+
+function showChoice() {
+  by("seed").parentElement.hidden = by("choice").selectedIndex === 0;
 }
 
 function showOnly() {
@@ -359,6 +373,8 @@ const source = {
   isLive: true,
   execute,
   heldForms,
+  finishButton,
+  finishPart,
   goToStep: jump,
   showFrom(key, first) { sight[key] = first; return inTurn(refresh); },
   async why(question_) {
@@ -401,6 +417,8 @@ by("cancel").addEventListener("click", () => {
   say("cancelled");
   progress("cancelled; the question under way is still answered");
 });
+by("choice").addEventListener("change", showChoice);
+showChoice();
 buildFeed();
 buildConditions();
 showOnly();

@@ -33,6 +33,14 @@ function candidate(it) {
   if (it.refused) press.append(made("small", it.refused));
   row.append(press);
   if (it.release) row.append(...source.heldForms(it.release));
+  else if (it.ask) row.append(finishRow(it));
+  return row;
+}
+
+// The button of a notification that waits.
+function finishRow(it) {
+  const row = made("div", undefined, "form");
+  row.append(source.finishButton(it.ask, it.line));
   return row;
 }
 
@@ -136,7 +144,8 @@ function showWhy() {
   if (!told.passed) list.append(made("li", `in truth ${there} is ${told.finished ? "" : "not "}finished`, "none"));
   const verdict = `processor ${chosen.q} ${told.passed ? "knows" : "does not know"} that ${there} is finished${told.passed ? "" : ":"}`;
   const arrive = told.times ? `can still arrive at ${at}, as far as processor ${chosen.q} knows: ${told.times} and later` : `processor ${chosen.q} knows that nothing can arrive at ${at} any more`;
-  return by("why").replaceChildren(made("p", verdict), list, made("p", arrive, "none"));
+  const finish = source.isLive ? source.finishPart(told) : [];
+  return redrawn(by("why"), made("p", verdict), list, made("p", arrive, "none"), ...finish);
 }
 
 // ---- the table, the processors, the breakpoints

@@ -276,7 +276,11 @@ REFUSALS = {
     "TooManyBreaks": sentence("32 breakpoints are set; at most 32 may be"),
     "NoBreak": Teller.no_break,
     "LogFull": sentence("1000000 commands are logged, and no more are executed"),
-    "BadRange": lambda teller, value, reply, before: f"lo, {value['lo']}, is above hi, {value['hi']}",
+    "BadRange": lambda teller, value, reply, before: (
+        f"the limit, {value['limit']}, is not from 1 to 1000000"
+        if value["do"] == "reach"
+        else f"lo, {value['lo']}, is above hi, {value['hi']}"
+    ),
     "NoWorkers": sentence('"workers" is 0; at least 1 thread is needed'),
     "Missing": lambda teller, value, reply, before: (
         f"no memory was left for piece {reply['piece']} of the positions"
@@ -329,6 +333,21 @@ def effect(teller, value, reply):
     """The step, and each place that it changed."""
     changed = effect_words(reply["changed"], teller.graph.holds, teller.graph.distincts)
     return [command_words(reply["step"]), *changed]
+
+
+def reached(teller, value, reply):
+    """The steps to a state at which the condition holds; or how many states were looked at, and whether
+    there are others."""
+    steps = reply["steps"]
+    if steps is None:
+        looked = f"at none of {counted(reply['states'], 'state')} that can be reached"
+        all_or_not = "these are all" if reply["whole"] else "there are more, which were not looked at"
+        return [f"{looked}; {all_or_not}"]
+    if not steps:
+        return ["it holds already"]
+    first = f"after {counted(len(steps), 'step')}, and no fewer"
+    told = map(command_words, steps[:MOST_STEPS])
+    return [first, *told, *([f"... ({len(steps)} in all)"] if len(steps) > MOST_STEPS else [])]
 
 
 def turns(teller, value, reply):
@@ -390,4 +409,5 @@ ANSWERS = {
     "candidates": candidates,
     "effect": effect,
     "turns": turns,
+    "reach": reached,
 }

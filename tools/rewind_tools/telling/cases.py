@@ -285,8 +285,8 @@ TOLD = {
         [LINE, *map(do, ("help", "quit", "Continue", "next", "step", "undo")), '"help"', '"run"'], 0, [
         (2, '"help" is no command or query; the commands of version 1 are feed, take, notice, broadcast, '
             'receive, back, redo, jump, run,'),
-        (2, "the queries are state, count, before, view, frontier, passed, search version 6 adds send, "
-            "release, export, why, changes, step, candidates, effect, turns"),
+        (2, "the queries are state, count, before, view, frontier, passed, search version 7 adds send, "
+            "release, export, why, changes, step, candidates, effect, turns, reach"),
         (3, '"quit" is no command or query; the end of the input ends the run'),
         (4, '{"do":"run","limit":1000} executes up to 1,000'),
         (5, '{"do":"run","limit":1} executes the next step, {"do":"redo"} a kept step again'),
@@ -298,8 +298,8 @@ TOLD = {
     ]),
     "the same of version 3": ([],
         [V3, LINE, do("help"), do("step"), do("step", at=7), "step 4", "why 1 z [2]", "c"], 0, [
-        (3, "frontier, passed, search, export, why, changes, step version 6 adds send, release, candidates, "
-            "effect, turns; its first line is"),
+        (3, "frontier, passed, search, export, why, changes, step version 7 adds send, release, candidates, "
+            "effect, turns, reach; its first line is"),
         (3, "docs/SCRIPT.md shows the form of each"), (4, 'right is {"do":"step","to":0}'),
         (4, '{"do":"run","limit":1} executes the next step'), (5, 'right is {"do":"step","to":7}'),
         (6, 'right is {"do":"step","to":4}'),
@@ -322,7 +322,7 @@ TOLD = {
     "clients' words": (["--clients", "2"], [*CLIENTS, "back"], 2,
         [(4, 'the line is not JSON; right is {"client":0,"do":"back"}')]),
     "clients' help": (["--clients", "2"], [*CLIENTS, '{"client":1,"do":"help"}'], 2, [
-        (4, "run, break, unbreak several clients have no queries version 6 adds send, release; its first "
+        (4, "run, break, unbreak several clients have no queries version 7 adds send, release; its first "
             "line is"),
         (4, 'as {"client":0,"do":"back"}'),
     ]),
@@ -458,7 +458,7 @@ TOLD = {
         (5, "before the graph alone"),
     ]),
     "another version": ([], ['{"version":9}', LINE], 2,
-        [(1, 'faulty, 40 Shape: a version line is {"version":N} alone, N from 2 to 6')]),
+        [(1, 'faulty, 40 Shape: a version line is {"version":N} alone, N from 2 to 7')]),
     "a version twice": ([], [V2, V2, LINE], 2,
         [(1, "of version 2"), (2, "faulty, 40 Shape: a version line is")]),
     "a version alone": ([], [V3], 0, [

@@ -133,7 +133,7 @@ OPAQUE_TOLD = {
     "a graph of 65 locations in version 5": ([], [
         V5, json.dumps(graph([vertex(f"z{n}", "sink") for n in range(65)], [])),
     ], 2, [
-        (2, "45 TooLarge: there are 65 vertices and edges; at most 64 may be; in version 6 at most 256"),
+        (2, "45 TooLarge: there are 65 vertices and edges; at most 64 may be; in version 7 at most 256"),
     ]),
     "a graph of 256 locations": ([], [
         V6, json.dumps(graph([A, *(vertex(f"z{n}", "sink") for n in range(255))], [])),

@@ -80,7 +80,8 @@ def release(it):
 def run(it):
     """A run, of all processors or of those that are listed, each once."""
     alone = f" {processors(it['only'])} alone" if "only" in it else ""
-    return f"run{alone}, at most {counted(it['limit'], 'step')}"
+    lot = f", chosen by the seed {it['seed']}" if "seed" in it else ""
+    return f"run{alone}, at most {counted(it['limit'], 'step')}{lot}"
 
 
 def broadcast(it):
@@ -102,6 +103,14 @@ def turns(it):
         f"at which of the positions {it['lo']} to {it['hi']} does it begin or cease to hold that"
         f" {condition(it['when'])}?"
     )
+
+
+def reach(it):
+    """A question for what can still happen: the condition, which steps of users count, and the limit."""
+    users = {"feed": "feeds of nothing", "release": "releases"}
+    more = f", {' and '.join(users[word] for word in it['with'])} counted" if "with" in it else ""
+    asked = f"by which steps does it come to hold that {condition(it['when'])}{more}?"
+    return f"{asked} ({counted(it['limit'], 'state')} at most)"
 
 
 def why(it):
@@ -178,6 +187,7 @@ WORDS = {
     "candidates": lambda it: "which steps may be executed now, and what stands in the way of the others?",
     "effect": lambda it: f"what did the step that leads to position {it['to']} change?",
     "turns": turns,
+    "reach": reach,
 }
 
 

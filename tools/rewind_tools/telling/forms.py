@@ -16,6 +16,7 @@ from rewind_tools.script import (
     NEXTS,
     OPTIONAL,
     SINCE,
+    USERS,
     atoms_of,
     form_of,
     words_of,
@@ -35,6 +36,7 @@ NEXT, NEXT_OR_TO = values.one_of_before_to(NEXT_TO_SINCE, *NEXTS), values.one_of
 PROCESSORS = (f"a list of 1 to {MOST_ONLY} processors' numbers", values.processors(MOST_ONLY))
 WHEN = ("a condition", lambda value: None)
 FLAG = ("true or false", values.flag)
+USERS_LISTED = values.some_of(*USERS)
 SEVERAL = ("all", "any")
 
 # What stands for a value in a form that is shown.
@@ -43,7 +45,7 @@ SAMPLES = {
     id(TIME): "[0]",
     id(POINT): '["a",[0]]', id(POINTS): '[["a",[0]]]', id(VALUES): "[5]", id(NEXT): '"next"',
     id(NEXT_OR_TO): '"next"', id(PROCESSORS): "[0]",
-    id(WHEN): '{"passed":{"q":0,"at":"a","time":[0]}}', id(FLAG): "true",
+    id(WHEN): '{"passed":{"q":0,"at":"a","time":[0]}}', id(FLAG): "true", id(USERS_LISTED): '["feed"]',
 }  # fmt: skip
 # The same under a key for which the sample of its kind says little.
 KEY_SAMPLES = {"limit": "1000", "workers": "1"}
@@ -51,6 +53,7 @@ KINDS = {
     "small": SMALL, "port": SMALL, "whole": WHOLE, "signed": SIGNED, "vertex": VERTEX, "edge": EDGE,
     "place": PLACE, "time": TIME, "point": POINT,
     "points": POINTS, "values": VALUES, "next": NEXT, "when": WHEN, "flag": FLAG, "processors": PROCESSORS,
+    "users": USERS_LISTED,
 }  # fmt: skip
 
 

@@ -121,6 +121,19 @@ def one_of(*words):
     )
 
 
+def some_of(*words):
+    """The kind of the lists of at least one of some texts, each at most once."""
+    listed, fault_of = one_of(*words)
+
+    def fault(value):
+        wrong = list_of(fault_of)(value)
+        if wrong or not value:
+            return wrong or "is empty"
+        return "has an item twice" if len(set(value)) < len(value) else None
+
+    return f"a list of {listed} or both", fault
+
+
 def is_only(value, *names):
     """Whether a value is an object with one of these names as its only key."""
     return isinstance(value, dict) and len(value) == 1 and next(iter(value)) in names

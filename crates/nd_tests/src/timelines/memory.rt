@@ -101,14 +101,16 @@ fn jump<A: Allocator + Copy>(timeline: &mut Timeline<A>) -> Option<()> {
     timeline.jump(end).ok()
 }
 
-/// Runs all processors, and then the first, from the first position.
+/// Runs all processors, then the first, and then the first by a seed, from the first position.
 fn run<A: Allocator + Copy>(alloc: A, timeline: &mut Timeline<A>) -> Option<()> {
     let breaks = Breaks::new(alloc).ok()?;
     timeline.jump(1).ok()?;
     run_all(timeline, 10, &breaks).ok()?;
     timeline.jump(1).ok()?;
     let only = Some(processors_of(alloc, &[0, 0])?);
-    timeline.run(10, only.as_ref(), &breaks).ok()?;
+    timeline.run(10, only.as_ref(), None, &breaks).ok()?;
+    timeline.jump(1).ok()?;
+    timeline.run(10, only.as_ref(), Some(1), &breaks).ok()?;
     Some(())
 }
 

@@ -2,10 +2,11 @@ use Rattle.std.proofs.Common.{◌≡◌, refl}
 use Rattle.nd_state_json.specs.StateText.{state_data}
 use Rattle.nd_timeline.specs.Timeline.{cluster_of}
 use Rattle.rewind_forms.specs.Replies.{count, state}
-use Rattle.rewind_forms.specs.declared.queries.Query.TheVariants.{State, Count, Before, View, Frontier, Passed, Search, Export, Why, Changes, Step, Candidates, Effect, Turns, FrontierAt, WhyBefore}
+use Rattle.rewind_forms.specs.declared.queries.Query.TheVariants.{State, Count, Before, View, Frontier, Passed, Search, Export, Why, Changes, Step, Candidates, Effect, Turns, FrontierAt, WhyBefore, Reach}
 use Rattle.rewind_answers.specs.Ahead.{CandidatesReply, FrontierAtReply}
 use Rattle.rewind_answers.specs.Answers.{BeforeReply, ViewReply, FrontierReply, PassedReply, SearchReply, true_count}
 use Rattle.rewind_answers.specs.Explained.{WhyReply, WhyBeforeReply, ChangesReply, ExportReply, StepReply, EffectReply, TurnsReply}
+use Rattle.rewind_answers.specs.Reached.{ReachReply}
 use Rattle.rewind_answers.proofs.TextLaws.{query_text}
 use Rattle.rewind_answers.proofs.query.answer_query.Goals as goal
 
@@ -132,4 +133,12 @@ returns-in-WhyBefore g c = record {
       let m = c.args.state.now.machine.timeline in
       query_text (λ s v. WhyBeforeReply s c.in-WhyBefore.q c.in-WhyBefore.point v) m c.cluster-cluster.result.now (cluster_of m) c.args.query.now (WhyBefore c.in-WhyBefore.q c.in-WhyBefore.point) c.answer_why_before.result
       c.cluster-cluster.ensures.value c.in-WhyBefore.is (λ v h. h) c.answer_why_before.ensures.reply;
+}
+
+pub returns-in-Reach : goal.returns-in-Reach
+returns-in-Reach g c = record {
+  reply =
+      let m = c.args.state.now.machine.timeline in
+      query_text (λ s v. ReachReply s c.in-Reach.asked v) m c.cluster-cluster.result.now (cluster_of m) c.args.query.now (Reach c.in-Reach.asked) c.answer_reach.result
+      c.cluster-cluster.ensures.value c.in-Reach.is (λ v h. h) c.answer_reach.ensures.reply;
 }

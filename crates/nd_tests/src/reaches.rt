@@ -1,0 +1,127 @@
+//! What can still happen: searches for a state with ample memory, and with each request refused in turn: the search that
+//! meets the refusal returns out of memory. It only reads the cluster, so the next search begins at the same state.
+
+use crate::opened::only;
+use crate::timelines::memory::Heap;
+use nd_breaks::{Atom, Condition};
+use nd_cluster::{Allowed, Cluster, Next};
+use nd_examples::{HELD, LINE, Told, point, reach as cluster_of, start};
+use nd_reach::{ReachFault, Reached, reach};
+use nd_testing::{Refusing, in_turn};
+use std::alloc::{Allocator, Global};
+
+/// What a search returns.
+#[derive(Drop)]
+enum Wanted {
+    /// A way of so many steps.
+    Way(usize),
+    /// That so many states were looked at, and whether these are all.
+    Nowhere(u64, bool),
+}
+
+/// A graph and steps of one processor, the steps of users that are allowed, how many states are looked at, and what a search
+/// returns.
+type Row = (&'static str, &'static [Told], Allowed, u64, Wanted);
+
+const NONE: Allowed = Allowed {
+    feeds: false,
+    releases: false,
+};
+
+const FEEDS: Allowed = Allowed {
+    feeds: true,
+    releases: false,
+};
+
+const RELEASES: Allowed = Allowed {
+    feeds: false,
+    releases: true,
+};
+
+const NOTHING: &[Told] = &[];
+
+/// A record on an edge.
+const FED: &[Told] = &[Told::Feed(0, "a", &[5], Next::Close)];
+
+/// A processor that holds a capability, and has nothing else to do.
+const HOLDING: &[Told] = &[
+    Told::Feed(0, "a", &[7], Next::Close),
+    Told::Take(0, "ah", &[0], 7),
+    Told::Take(0, "hz", &[0], 7),
+    Told::All(0),
+    Told::Receive(0, 0),
+];
+
+static ROWS: [Row; 6] = [
+    (LINE, FED, NONE, 1000, Wanted::Way(3)),
+    (LINE, NOTHING, NONE, 10, Wanted::Nowhere(1, true)),
+    (LINE, NOTHING, FEEDS, 10, Wanted::Way(3)),
+    (LINE, NOTHING, FEEDS, 1, Wanted::Nowhere(1, false)),
+    (HELD, HOLDING, NONE, 1000, Wanted::Nowhere(1, true)),
+    (HELD, HOLDING, RELEASES, 1000, Wanted::Way(3)),
+];
+
+/// Returns the condition that the view of processor 0 has passed an epoch at z.
+fn passed<A: Allocator + Copy>(cluster: &Cluster<A>, epoch: u32) -> Option<Condition> {
+    let point = point(cluster.graph(), "z", &[epoch])?;
+    Some(only(Atom::Passed { q: 0, point }))
+}
+
+/// Returns whether this was found.
+fn is_found<A: Allocator>(found: &Reached<A>, wanted: &Wanted) -> bool {
+    match (found, wanted) {
+        (Reached::Way(steps), Wanted::Way(count)) => steps.as_slice().len() == *count,
+        (Reached::Nowhere { states, whole }, Wanted::Nowhere(count, is_all)) => {
+            states == count && whole == is_all
+        }
+        _ => false,
+    }
+}
+
+/// Makes the search of a row from its cluster: `None` if it runs out of memory, or does not return what is wanted.
+fn search<A: Allocator + Copy>(
+    alloc: A,
+    cluster: &Cluster<A>,
+    when: &Condition,
+    row: &Row,
+) -> Option<()> {
+    let (_, _, allowed, limit, wanted) = row;
+    let found = reach(alloc, cluster, *allowed, when, *limit).ok()?;
+    if is_found(&found, wanted) {
+        Some(())
+    } else {
+        None
+    }
+}
+
+/// Returns how many requests of the search of a row were refused before it met none.
+fn refused<A: Allocator + Copy>(heap: &Heap, json: Global, alloc: A, row: &Row) -> Option<u64> {
+    let (text, steps, _, _, _) = row;
+    let cluster = cluster_of(json, alloc, text, 1, steps)?;
+    let when = passed(&cluster, 0)?;
+    in_turn!(heap: search(alloc, &cluster, &when, row))
+}
+
+#[test]
+fn searches_out_of_memory(rt: HostRuntime) {
+    let heap = Refusing::new(rt.alloc());
+    for (i, row) in ROWS.iter().enumerate() {
+        let count = refused(&heap, rt.alloc(), &heap, row);
+        assert!(rt; matches!(count, Some(n) if n > 0), "in row {i}");
+        assert!(rt; heap.live() == 0, "in row {i}");
+    }
+}
+
+/// Returns whether a search of so many states is refused before it begins, without a request for memory.
+fn is_refused(alloc: Global, limit: u64) -> Option<bool> {
+    let cluster = start(alloc, alloc, LINE, 1)?;
+    let fault = reach(alloc, &cluster, NONE, &passed(&cluster, 0)?, limit).err()?;
+    Some(fault == ReachFault::BadRange && fault.code().number() == 50)
+}
+
+#[test]
+fn limits(rt: HostRuntime) {
+    for limit in [0, 1_000_001, u64::MAX] {
+        assert!(rt; is_refused(rt.alloc(), limit) == Some(true), "of {limit}");
+    }
+}
