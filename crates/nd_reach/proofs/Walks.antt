@@ -6,10 +6,10 @@ use Rattle.nd_protocol.specs.State.{ClusterState}
 use Rattle.nd_protocol.specs.Steps.{stepped, after}
 use Rattle.nd_protocol.specs.declared.step.Step.{Step}
 use Rattle.nd_steps.specs.declared.record.Record.{Record}
-use Rattle.nd_cluster.specs.Records.{IsPlanned}
+use Rattle.nd_cluster.specs.Records.{IsPlanned, IsCommitted, Leads}
 use Rattle.nd_cluster.specs.Saved.{state_in, FitsIn, IsSaved}
 use Rattle.nd_cluster.specs.declared.saved.Saved.{Saved}
-use Rattle.nd_reach.specs.Found.{IsMade, IsNode, AreFound}
+use Rattle.nd_reach.specs.Found.{IsMade, IsNode, AreFound, StandsAt}
 use Rattle.nd_reach.specs.declared.node.Node.{Node}
 use Rattle.nd_reach.proofs.Order.{after_snoc}
 
@@ -57,3 +57,17 @@ module _ {A : Type 0} (s : ClusterState) (ways : List (List (Step A))) (forms : 
       let made = made_by r some w at in
       step ∙ (ap (λ (t : ClusterState). stepped t r.step) (leads made.earlier made.there)
       ∙ (sym (after_snoc s made.earlier r.step) ∙ ap (after s) (sym made.longer)))
+
+  led_here : (r : Record A) (some : node.made ≡ Some r) (t : ClusterState) → StandsAt s ways k t → Leads r (after s (made_by r some (get_or ways k []) way).earlier) t
+  led_here r some t stands =
+      let made = made_by r some (get_or ways k []) way in
+      record { planned = made.planned; after = stands (get_or ways k []) way ∙ (ap (after s) made.longer ∙ after_snoc s made.earlier r.step) }
+
+  pub committed_there : (r : Record A) → node.made ≡ Some r → (t : ClusterState) → StandsAt s ways k t → IsCommitted r t
+  committed_there r some t stands = record { state = _; leads = led_here r some t stands }
+
+  pub back_leads : (r : Record A) → node.made ≡ Some r → (t u : ClusterState) → StandsAt s ways k t → ((v : ClusterState) → Leads r v t → u ≡ v) → StandsAt s ways node.parent u
+  back_leads r some t u stands back w at =
+      let made = made_by r some (get_or ways k []) way in
+      let same : made.earlier ≡ w = cc (made.there, at) in
+      back (after s made.earlier) (led_here r some t stands) ∙ ap (after s) same

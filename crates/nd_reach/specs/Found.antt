@@ -47,6 +47,24 @@ pub record AreFound {A : Type 0} (s : ClusterState) (ways : List (List (Step A))
   pub each : (k : ℕ) (w : List (Step A)) (node : Node A) → slice_get ways k ≡ Some w → slice_get nodes k ≡ Some node → IsNode s ways k w node
   pub alike : (k : ℕ) (w : List (Step A)) → slice_get ways k ≡ Some w → IsAlike s (after s w)
 
+-- ---- walks
+
+-- t is the state to which the way at the place k leads
+abbrev pub StandsAt : {A : Type 0} → ClusterState → List (List (Step A)) → ℕ → ClusterState → Type 0
+StandsAt {A} s ways k t = (w : List (Step A)) → slice_get ways k ≡ Some w → t ≡ after s w
+
+-- t is the state that a search has found at the place k
+pub record IsSomewhere {A : Type 0} (nodes : List (Node A)) (k : ℕ) (t : ClusterState) : Type 0 where
+  pub start : ClusterState
+  pub ways : List (List (Step A))
+  pub forms : List (List ℕ)
+  pub found : AreFound start ways forms nodes
+  pub there : StandsAt start ways k t
+
+-- a walk from the state t to the state u: if t was found at the place `from`, u was found at the place `to`
+abbrev pub Walks : {A : Type 0} → List (Node A) → ℕ → ℕ → ClusterState → ClusterState → Type 0
+Walks {A} nodes from to t u = (s : ClusterState) (ways : List (List (Step A))) (forms : List (List ℕ)) → AreFound s ways forms nodes → StandsAt s ways from t → StandsAt s ways to u
+
 -- ---- a search
 
 -- what a search looks for: from which state, by which moves, for what, and among how many states
@@ -63,6 +81,10 @@ pub record HasSearched {A : Type 0} (q : Wanted) (forms : List (List ℕ)) (node
   pub searched : IsSearched q.allowed q.start ways at
   pub none : HoldsNowhere q.when q.start ways
   pub within : length ways ≤ q.limit
+
+-- the same, while the walker is at the state t, which was found at the place `last`
+abbrev pub HasWalked : {A : Type 0} → Wanted → List (List ℕ) → List (Node A) → ℕ → ℕ → ClusterState → Type 0
+HasWalked q forms nodes at last t = (h : HasSearched q forms nodes at) × StandsAt q.start h.ways last t
 
 -- a search that goes on from the state t at the place `at`, by those of its moves that stand before the place `next`
 pub record GoesOn {A : Type 0} (q : Wanted) (forms : List (List ℕ)) (nodes : List (Node A)) (at : ℕ) (t : ClusterState) (moves : List (Step A)) (next : ℕ) : Type 0 where
@@ -113,10 +135,10 @@ abbrev pub HasBegun : {A : Type 0} → Wanted → List (List ℕ) → List (Node
 HasBegun q forms nodes true = IsHit q forms nodes
 HasBegun q forms nodes false = HasSearched q forms nodes 0
 
--- the search goes on with the next state, or has ended
-abbrev pub HasExpanded : {A : Type 0} → Wanted → List (List ℕ) → List (Node A) → ℕ → Option End → Type 0
-HasExpanded q forms nodes at None = HasSearched q forms nodes (at + 1)
-HasExpanded q forms nodes at (Some end) = HasEnded q forms nodes end
+-- the search goes on with the next state, and the walker is at the state that was gone on from; or the search has ended
+abbrev pub HasExpanded : {A : Type 0} → Wanted → List (List ℕ) → List (Node A) → ℕ → ClusterState → Option End → Type 0
+HasExpanded q forms nodes at t None = HasWalked q forms nodes (at + 1) at t
+HasExpanded q forms nodes at t (Some end) = HasEnded q forms nodes end
 
 -- all states that are reached were looked at, or the search has ended
 abbrev pub HasRun : {A : Type 0} → Wanted → List (List ℕ) → List (Node A) → Option End → Type 0

@@ -1,16 +1,16 @@
 //! The search for a state at which a condition holds, breadth first.
-ghost use Rattle.std.specs.Prelude.{◌≡◌, ◌<◌, [], ℕ, List, Some, slice_get, length, IfErr, IfOk, OnOk, IfSome};
+ghost use Rattle.std.specs.Prelude.{◌≡◌, ◌<◌, ◌≤◌, [], ℕ, List, Some, slice_get, length, IfErr, IfOk, OnOk, IfSome};
 ghost use Rattle.nd_protocol.specs.declared.step.Step.{Step};
 ghost use Rattle.nd_cluster.specs.Records.{IsPlanned};
 ghost use Rattle.nd_cluster.specs.Saved.{IsSaved};
-ghost use Rattle.nd_reach.specs.Found.{GoesOn, HasSearched, HasTried, HasExpanded, HasRun, HasBegun, Stays};
+ghost use Rattle.nd_reach.specs.Found.{GoesOn, HasTried, HasExpanded, HasRun, HasBegun, HasWalked, Stays};
 ghost use Rattle.nd_reach.specs.Questions.{wanted};
 ghost use Rattle.nd_reach.specs.Faults.{CannotReach, MayReach};
 ghost use Rattle.nd_reach.specs.declared.fault.ReachFault.TheVariants.{Memory};
 ghost use Rattle.nd_reach.specs.Reach.{IsExact, IsReached};
 
 use crate::found::Found;
-use crate::going::walker_at;
+use crate::going::{walk, walker_at};
 use crate::node::Node;
 use crate::way::way_to;
 use crate::{Allowed, ReachFault, Reached, forms_tell_states};
@@ -23,6 +23,9 @@ const MAX_REACHED: u64 = 1_000_000;
 
 /// The most moves that a walk makes from where it begins.
 const MOST_MOVES: u32 = 128;
+
+/// The most moves that a walk undoes and makes from the state that was looked at last.
+const NEAR: u32 = 32;
 
 /// Why a search ends before all moves of all states were tried.
 #[derive(Clone, Copy, Drop)]
@@ -93,18 +96,48 @@ impl<'a, A: Allocator + Copy> Question<'a, A> {
         if holds { Ok(Some(End::Hit)) } else { Ok(None) }
     }
 
-    // Tries all moves of a state that was found.
-    fn expand(&self, found: &mut Found<A>, at: usize) -> Result<Option<End>, ReachFault>
-        requires searched { HasSearched (wanted self.now) found.old.forms.keys found.old.nodes.items at }
-        requires there { at < length found.old.nodes.items }
+    // Brings the walker from the state that was found at the place `last` to the one at the place `at`.
+    fn go(
+        &self,
+        found: &Found<A>,
+        walker: &mut Cluster<A>,
+        last: usize,
+        at: usize,
+    ) -> Result<(), ReachFault>
+        requires walked { HasWalked (wanted self.now)
+            found.now.forms.keys found.now.nodes.items at last walker.old }
+        requires there { at < length found.now.nodes.items }
+        requires order { last ≤ at }
         ensures err { IfErr result (λ e. e ≡ Memory) }
-        ensures ok { IfOk result (λ end.
-            HasExpanded (wanted self.now) found.new.forms.keys found.new.nodes.items at end) }
+        ensures ok { OnOk result (HasWalked (wanted self.now)
+            found.now.forms.keys found.now.nodes.items at at walker.new) }
     {
-        let mut walker = walker_at(self.alloc, self.start, &found.nodes, at)?;
+        if !walk(&found.nodes, walker, last, at, NEAR)? {
+            *walker = walker_at(self.alloc, self.start, &found.nodes, at)?;
+        }
+        Ok(())
+    }
+
+    // Tries all moves of a state that was found. The walker comes from the state at the place `last`.
+    fn expand(
+        &self,
+        found: &mut Found<A>,
+        walker: &mut Cluster<A>,
+        last: usize,
+        at: usize,
+    ) -> Result<Option<End>, ReachFault>
+        requires walked { HasWalked (wanted self.now)
+            found.old.forms.keys found.old.nodes.items at last walker.old }
+        requires there { at < length found.old.nodes.items }
+        requires order { last ≤ at }
+        ensures err { IfErr result (λ e. e ≡ Memory) }
+        ensures ok { IfOk result (HasExpanded (wanted self.now)
+            found.new.forms.keys found.new.nodes.items at walker.new) }
+    {
+        self.go(found, walker, last, at)?;
         let moves = walker.moves(self.allowed)?;
         for made in moves {
-            if let Some(end) = self.try_move(found, &mut walker, at, made)? {
+            if let Some(end) = self.try_move(found, walker, at, made)? {
                 return Ok(Some(end));
             }
         }
@@ -135,11 +168,13 @@ impl<'a, A: Allocator + Copy> Question<'a, A> {
         if self.begin(found)? {
             return Ok(Some(End::Hit));
         }
-        let mut at = 0;
+        let mut walker = self.start.copy(self.alloc)?;
+        let (mut last, mut at) = (0, 0);
         while at < found.nodes.len() {
-            if let Some(end) = self.expand(found, at)? {
+            if let Some(end) = self.expand(found, &mut walker, last, at)? {
                 return Ok(Some(end));
             }
+            last = at;
             at += 1;
         }
         Ok(None)

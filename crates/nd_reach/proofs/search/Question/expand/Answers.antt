@@ -1,6 +1,6 @@
 use Rattle.std.proofs.Common.{◌≡◌, ◌++◌, ◌∷◌, length, sym, subst, ap, arith}
 use Rattle.std.specs.Vec.Iter.{into_iter_items}
-use Rattle.nd_reach.specs.Found.{AreFound, HasTried, Stays}
+use Rattle.nd_reach.specs.Found.{HasTried, Stays}
 use Rattle.nd_reach.specs.Questions.{wanted}
 use Rattle.nd_reach.proofs.Expands.{IsLeft, none_tried, next_there, next_planned, at_within, all_tried, one_tried, nothing_left, steps}
 use Rattle.nd_reach.proofs.search.Question.expand.Goals as goal
@@ -10,9 +10,8 @@ loop-made-init g c = (
   tt,
   tt,
   omega (arith, c.into_iter-made-iterator.ensures.into_iter_gives.1, ap length c.into_iter-made-iterator.ensures.into_iter_gives.0),
-  subst (IsLeft (wanted c.args.self.now) c.args.found.now.forms.keys c.args.found.now.nodes.items c.args.at c.in_ok-walker.walker) (sym c.into_iter-made-iterator.ensures.into_iter_gives.0)
-      (none_tried (wanted c.args.self.now) c.args.found.now.forms.keys c.args.found.now.nodes.items c.args.at c.requires.searched c.requires.there c.in_ok-walker.walker
-      (λ ways forms w found. c.in_ok-walker.ensures.ok ways forms w (subst (AreFound c.args.self.now.start.now ways forms) (sym c.deref.ensures.value) found))
+  subst (IsLeft (wanted c.args.self.now) c.args.found.now.forms.keys c.args.found.now.nodes.items c.args.at c.go.new.walker) (sym c.into_iter-made-iterator.ensures.into_iter_gives.0)
+      (none_tried (wanted c.args.self.now) c.args.found.now.forms.keys c.args.found.now.nodes.items c.args.at c.go.new.walker c.in_ok-go.ensures.ok c.requires.there
       c.in_ok-moves.moves.items c.in_ok-moves.ensures),
 )
 
