@@ -1,8 +1,8 @@
 -- The answer of a search that has ended.
-use Rattle.std.proofs.Common.{◌≡◌, ◌∙◌, ℕ, ◌+◌, ◌-◌, ◌<◌, ◌≤◌, List, [], ◌∷◌, ◌++◌, length, refl, sym, ap, subst, arith, length-append, Option, Some, None, true, false}
+use Rattle.std.proofs.Common.{◌≡◌, ◌∙◌, ℕ, ◌+◌, ◌-◌, List, [], ◌∷◌, ◌++◌, length, refl, sym, ap, subst, arith, length-append, Option, Some, None, true, false}
 use Rattle.std.specs.Prelude.{slice_get}
 use Rattle.nd_protocol.specs.declared.step.Step.{Step}
-use Rattle.nd_reach.specs.Found.{Wanted, AreFound, HasSearched, IsHit, IsFull, HasEnded, HasRun}
+use Rattle.nd_reach.specs.Found.{Wanted, HasSearched, IsHit, IsFull, HasEnded, HasRun}
 use Rattle.nd_reach.specs.declared.search.End.{End}
 use Rattle.nd_reach.specs.declared.search.End.TheVariants.{Hit}
 use Rattle.nd_reach.specs.Reach.{HoldsAfter, IsReached}

@@ -1,13 +1,12 @@
 -- What follows from the first states that are reached, of lists of moves of any length.
-use Rattle.std.proofs.Common.{◌≡◌, ◌∙◌, inl, inr, ◌⊎◌, ℕ, ◌+◌, ◌<◌, ◌≤◌, Bool, true, false, List, [], ◌∷◌, ◌++◌, length, refl, sym, ap, subst, arith, length-append, Some}
-use Rattle.std.specs.Prelude.{slice_get, slice_index_or, All, IsTrue}
+use Rattle.std.proofs.Common.{◌≡◌, ◌∙◌, inl, inr, ◌⊎◌, ℕ, ◌<◌, ◌≤◌, Bool, true, false, List, [], ◌∷◌, ◌++◌, length, refl, sym, ap, subst, arith, length-append, Some}
+use Rattle.std.specs.Prelude.{slice_get, All}
 use Rattle.std.proofs.lemmas.Option.{slice_get-get_or, get_or_from_slice_get}
 use Rattle.nd_protocol.specs.State.{ClusterState}
-use Rattle.nd_protocol.specs.Steps.{after}
 use Rattle.nd_protocol.specs.declared.step.Step.{Step}
 use Rattle.nd_breaks.specs.Conditions.{ConditionValue, Holds}
-use Rattle.nd_reach.specs.Ways.{IsWay, IsLess, IsCovered, AreFirst, AreAll}
-use Rattle.nd_reach.specs.Reach.{HoldsAfter, HoldsNowhere, IsReached, IsNeverReached, IsNotReachedIn, IsExact}
+use Rattle.nd_reach.specs.Ways.{IsWay, IsLess, IsCovered, AreFirst}
+use Rattle.nd_reach.specs.Reach.{HoldsAfter, HoldsNowhere, IsReached, IsNotReachedIn, IsExact}
 use Rattle.nd_cluster.specs.declared.moves.Allowed.{Allowed}
 use Rattle.nd_reach.specs.declared.reached.Reached.{Reached}
 use Rattle.nd_reach.specs.declared.reached.Reached.TheVariants.{Way, Nowhere}

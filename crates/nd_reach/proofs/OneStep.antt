@@ -1,7 +1,6 @@
 -- Whether two steps are the same can be decided.
 use Rattle.std.proofs.Common.{◌≡◌, ◌≢◌, inl, inr, ◌⊎◌, ℕ, zero, suc, refl, ap}
-use Rattle.std.specs.Coded.{Coded}
-use base.Stored.{Gv, gnil, gnum, gcons, num}
+use base.Stored.{Gv, gnil, gnum, gcons}
 use Rattle.nd_protocol.specs.Codes.{step_code}
 use Rattle.nd_protocol.specs.declared.step.Step.{Step}
 

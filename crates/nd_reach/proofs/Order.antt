@@ -1,11 +1,9 @@
 -- The order of ways.
-use Rattle.std.proofs.Common.{◌≡◌, ◌≢◌, ◌∙◌, inl, inr, ◌⊎◌, ℕ, zero, suc, ◌+◌, ◌<◌, ◌≤◌, List, [], ◌∷◌, ◌++◌, length, refl, sym, ap, subst, arith, length-append, Some, None}
-use Rattle.std.specs.Prelude.{slice_get, Contains}
+use Rattle.std.proofs.Common.{◌≡◌, ◌∙◌, inl, inr, ◌⊎◌, ℕ, zero, suc, ◌+◌, ◌<◌, ◌≤◌, List, [], ◌∷◌, ◌++◌, length, refl, sym, ap, subst, arith, length-append}
 use Rattle.nd_protocol.specs.State.{ClusterState}
 use Rattle.nd_protocol.specs.Steps.{stepped, after}
-use Rattle.nd_protocol.specs.Enabled.{IsEnabled}
 use Rattle.nd_protocol.specs.declared.step.Step.{Step}
-use Rattle.nd_cluster.specs.Moves.{tries, AreMoves, AreTheEnabled}
+use Rattle.nd_cluster.specs.Moves.{tries, AreTheEnabled}
 use Rattle.nd_reach.specs.Ways.{IsMove, IsWay, StandsBefore, ComesFirst, IsSooner, IsLess}
 use Rattle.nd_reach.specs.Search.{IsAtMost}
 use Rattle.nd_cluster.specs.declared.moves.Allowed.{Allowed}

@@ -1,17 +1,16 @@
 -- A search breadth first: the ways that were found are the least ones, and every other way comes after them.
-use Rattle.std.proofs.Common.{◌≡◌, ◌≢◌, ◌∙◌, inl, inr, ◌⊎◌, ℕ, zero, suc, ◌+◌, ◌<◌, ◌≤◌, List, [], ◌∷◌, ◌++◌, length, refl, sym, ap, subst, arith, length-append, Option, Some, None}
-use Rattle.std.specs.Prelude.{slice_get, slice_index_or, Contains, All, AllPairs, Any}
-use Rattle.std.proofs.lemmas.Option.{slice_get_within, slice_get-get_or, get_or_from_slice_get}
+use Rattle.std.proofs.Common.{◌≡◌, ◌≢◌, ◌∙◌, inl, inr, ◌⊎◌, ℕ, zero, suc, ◌+◌, ◌<◌, ◌≤◌, List, [], ◌∷◌, ◌++◌, length, refl, sym, ap, subst, arith, length-append, Some}
+use Rattle.std.specs.Prelude.{slice_get}
 use Rattle.nd_protocol.specs.State.{ClusterState}
 use Rattle.nd_protocol.specs.Steps.{stepped, after}
 use Rattle.nd_protocol.specs.declared.step.Step.{Step}
 use Rattle.nd_cluster.specs.Moves.{AreMoves}
-use Rattle.nd_reach.specs.Ways.{IsMove, IsWay, StandsBefore, ComesFirst, IsSooner, IsLess, IsCovered, AreFirst, AreAll}
-use Rattle.nd_reach.specs.Search.{IsAtMost, Covers, IsSearched, IsGoing}
+use Rattle.nd_reach.specs.Ways.{IsMove, IsWay, IsLess}
+use Rattle.nd_reach.specs.Search.{Covers, IsSearched, IsGoing}
 use Rattle.nd_cluster.specs.declared.moves.Allowed.{Allowed}
 use Rattle.nd_reach.proofs.Places.{last_here, still_here, old_or_new, within_list, one_there, contains_at, last_of}
 use Rattle.nd_reach.proofs.Listed.{move_listed}
-use Rattle.nd_reach.proofs.Order.{order_of, after_snoc, way_snoc, way_front, way_last, less_trans, less_snoc, less_last, less_later, less_more, less_most, most_trans, most_snoc, most_length}
+use Rattle.nd_reach.proofs.Order.{order_of, after_snoc, way_snoc, way_front, way_last, less_snoc, less_last, less_later, less_more, less_most, most_trans, most_snoc}
 
 -- ---- searches
 

@@ -1,6 +1,6 @@
 -- A move of the state that a search goes on from, and the state to which it leads.
 use Rattle.std.proofs.Common.{◌≡◌, ◌≢◌, ◌∙◌, inl, inr, ◌⊎◌, ℕ, zero, suc, ◌+◌, ◌<◌, ◌≤◌, List, [], ◌∷◌, ◌++◌, length, map, refl, sym, ap, subst, arith, length-append, Option, Some, None, Bool, true, false}
-use Rattle.std.specs.Prelude.{slice_get, Contains, IfSome, All}
+use Rattle.std.specs.Prelude.{slice_get, Contains, IfSome}
 use Rattle.std.proofs.lemmas.List.{length-set, map-append}
 use Rattle.std.proofs.lemmas.List.Elements.{All-push}
 use Rattle.nd_delta.specs.Delta.{DeltaValue}
@@ -18,12 +18,12 @@ use Rattle.nd_cluster.specs.Records.{IsPlanned, shared}
 use Rattle.nd_cluster.specs.Saved.{IsSaved}
 use Rattle.nd_breaks.specs.Conditions.{Holds}
 use Rattle.nd_reach.specs.Forms.{form, FormsTellStates}
-use Rattle.nd_reach.specs.Reach.{HoldsAfter, HoldsNowhere}
+use Rattle.nd_reach.specs.Reach.{HoldsAfter}
 use Rattle.nd_reach.specs.Search.{IsGoing}
 use Rattle.nd_reach.specs.Found.{Wanted, IsMade, IsNode, IsAlike, AreFound, HasSearched, HasBegun, GoesOn, IsHit, IsFull}
-use Rattle.nd_reach.specs.Ways.{IsWay, AreAll}
+use Rattle.nd_reach.specs.Ways.{IsWay}
 use Rattle.nd_reach.specs.declared.node.Node.{Node}
-use Rattle.nd_reach.proofs.Places.{still_here, old_or_new, within_list, contains_at, at_contained, last_here}
+use Rattle.nd_reach.proofs.Places.{still_here, old_or_new, within_list, contains_at, at_contained}
 use Rattle.nd_reach.proofs.Listed.{listed_move}
 use Rattle.nd_reach.proofs.Order.{after_snoc, way_snoc}
 use Rattle.nd_reach.proofs.OneStep.{one_step}

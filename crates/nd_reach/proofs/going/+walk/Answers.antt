@@ -1,4 +1,4 @@
-use Rattle.std.proofs.Common.{rules, ◌<◌, arith, Result, Ok, Err, IfOk, IsTrue, not}
+use Rattle.std.proofs.Common.{rules, arith, Result, Ok, Err, IfOk, IsTrue}
 use Rattle.nd_reach.specs.Found.{IsSomewhere}
 use Rattle.nd_reach.proofs.Walks.{parent_before, planned_there, made_leads, committed_there, back_leads}
 use Rattle.nd_reach.proofs.going.+walk.Goals as goal

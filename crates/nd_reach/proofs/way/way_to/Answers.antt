@@ -1,4 +1,4 @@
-use Rattle.std.proofs.Common.{◌≡◌, ◌∙◌, ◌<◌, length, sym, subst, ap, arith, reverse, None}
+use Rattle.std.proofs.Common.{◌∙◌, ◌<◌, length, sym, subst, ap, arith}
 use Rattle.nd_reach.specs.declared.node.Node.{Node}
 use Rattle.nd_reach.proofs.Back.{LeadsTo, leads_start, leads_back, leads_end, parent_of, one_node}
 use Rattle.nd_reach.proofs.way.way_to.Goals as goal

@@ -1,4 +1,4 @@
-use Rattle.std.proofs.Common.{length, ◌-◌, ◌≤◌}
+use Rattle.std.proofs.Common.{◌-◌, ◌≤◌}
 use Rattle.nd_reach.specs.Questions.{wanted}
 use Rattle.nd_reach.specs.Found.{HasWalked}
 use Rattle.nd_reach.proofs.search.Question.run.Given as goal

@@ -1,5 +1,5 @@
-use Rattle.std.proofs.Common.{◌≡◌, ◌∙◌, ◌<◌, ◌≤◌, ◌++◌, ◌∷◌, [], ℕ, List, length, refl, sym, ap, subst, arith}
-use Rattle.std.specs.Prelude.{Contains, IsTrue, IfSome}
+use Rattle.std.proofs.Common.{◌∙◌, ◌<◌, ◌≤◌, ◌++◌, ◌∷◌, [], length, sym, ap, subst, arith}
+use Rattle.std.specs.Prelude.{Contains, IfSome}
 use Rattle.nd_protocol.specs.State.{ClusterState}
 use Rattle.nd_protocol.specs.Fitting.{IsState}
 use Rattle.nd_cluster.specs.Saved.{IsSaved}
