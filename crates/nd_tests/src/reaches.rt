@@ -5,7 +5,7 @@ use crate::opened::only;
 use crate::timelines::memory::Heap;
 use nd_breaks::{Atom, Condition};
 use nd_cluster::{Allowed, Cluster, Next};
-use nd_examples::{HELD, LINE, Told, point, reach as cluster_of, start};
+use nd_examples::{HELD, LINE, Told, make, point, reach as cluster_of, start, step_of};
 use nd_reach::{ReachFault, Reached, reach};
 use nd_testing::{Refusing, in_turn};
 use std::alloc::{Allocator, Global};
@@ -94,12 +94,24 @@ fn search<A: Allocator + Copy>(
     }
 }
 
-/// Returns how many requests of the search of a row were refused before it met none.
+/// Returns how many requests of the search of a row, from a cluster to one that has passed the epoch at z, were refused before
+/// it met none.
+fn refused_from<A: Allocator + Copy>(
+    heap: &Heap,
+    alloc: A,
+    cluster: &Cluster<A>,
+    epoch: u32,
+    row: &Row,
+) -> Option<u64> {
+    let when = passed(cluster, epoch)?;
+    in_turn!(heap: search(alloc, cluster, &when, row))
+}
+
+/// The same from the cluster of the row to one that has passed epoch 0.
 fn refused<A: Allocator + Copy>(heap: &Heap, json: Global, alloc: A, row: &Row) -> Option<u64> {
     let (text, steps, _, _, _) = row;
     let cluster = cluster_of(json, alloc, text, 1, steps)?;
-    let when = passed(&cluster, 0)?;
-    in_turn!(heap: search(alloc, &cluster, &when, row))
+    refused_from(heap, alloc, &cluster, 0, row)
 }
 
 #[test]
@@ -110,6 +122,37 @@ fn searches_out_of_memory(rt: HostRuntime) {
         assert!(rt; matches!(count, Some(n) if n > 0), "in row {i}");
         assert!(rt; heap.live() == 0, "in row {i}");
     }
+}
+
+/// Two steps that put a change into the queue of a processor.
+const QUEUEING: &[Told] = &[Told::Feed(0, "a", &[], Next::Next), Told::All(0)];
+
+/// Returns a cluster with so many changes in the queue of its processor: each receive leads to the only next state.
+fn queued<A: Allocator + Copy>(json: Global, alloc: A, count: u32) -> Option<Cluster<A>> {
+    let mut cluster = start(json, alloc, LINE, 1)?;
+    for _ in 0..count {
+        for told in QUEUEING {
+            let step = step_of(alloc, cluster.graph(), told)?;
+            make(&mut cluster, &step)?;
+        }
+    }
+    Some(cluster)
+}
+
+/// The search along so long a way that a state on it is saved.
+static LONG: Row = (LINE, NOTHING, NONE, 1000, Wanted::Way(130));
+
+fn refused_along<A: Allocator + Copy>(heap: &Heap, json: Global, alloc: A) -> Option<u64> {
+    let cluster = queued(json, alloc, 130)?;
+    refused_from(heap, alloc, &cluster, 129, &LONG)
+}
+
+#[test]
+fn long_ways_out_of_memory(rt: HostRuntime) {
+    let heap = Refusing::new(rt.alloc());
+    let count = refused_along(&heap, rt.alloc(), &heap);
+    assert!(rt; matches!(count, Some(n) if n > 130));
+    assert!(rt; heap.live() == 0);
 }
 
 /// Returns whether a search of so many states is refused before it begins, without a request for memory.
