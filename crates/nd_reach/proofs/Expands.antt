@@ -124,4 +124,3 @@ module _ {A : Type 0} (q : Wanted) (forms : List (List ℕ)) (nodes : List (Node
     none = h.none;
     within = h.within;
   }
-
