@@ -26,7 +26,7 @@ put-requires g c =
     = rest_more deref_pair c.loop-point.point-iterator c.next.new.self c.next.result (c.in-Some.point, c.in-Some.n) c.in-Some.is c.next.ensures.steps in
     let is : c.in-Some.n.now ≡ at m c.in-Some.point.now = made_next m (minus m c.args.part.now) c.loop-point.point-iterator c.next.new.self (c.in-Some.point.now, c.in-Some.n.now) c.loop-point.made step c.loop-point.invariant in
     let small : unsigned_abs c.in-Some.n.now ≤ max_count = rw is (c.iter-point-items.ensures.within c.in-Some.point.now) in
-    rw (lessened m c.args.part.now c.in-Some.point.now c.in-Some.n.now c.get.result is c.get.ensures.value small c.get.ensures.within)
+    rw (lessened c.in-Some.n.now c.get.result small c.get.ensures.within m c.args.part.now c.in-Some.point.now is c.get.ensures.value)
     (stays_within m c.args.part.now c.requires c.in-Some.point.now (c.iter-point-items.ensures.within c.in-Some.point.now))
 
 pub loop-point-preserved : goal.loop-point-preserved
@@ -36,7 +36,7 @@ loop-point-preserved g c =
     = rest_more deref_pair c.loop-point.point-iterator c.next.new.self c.next.result (c.in-Some.point, c.in-Some.n) c.in-Some.is c.next.ensures.steps in
     let is : c.in-Some.n.now ≡ at m c.in-Some.point.now = made_next m (minus m c.args.part.now) c.loop-point.point-iterator c.next.new.self (c.in-Some.point.now, c.in-Some.n.now) c.loop-point.made step c.loop-point.invariant in
     let small : unsigned_abs c.in-Some.n.now ≤ max_count = rw is (c.iter-point-items.ensures.within c.in-Some.point.now) in
-    let set_is = rw (lessened m c.args.part.now c.in-Some.point.now c.in-Some.n.now c.get.result is c.get.ensures.value small c.get.ensures.within) at c.in_ok-put.ensures.ok in
+    let set_is = rw (lessened c.in-Some.n.now c.get.result small c.get.ensures.within m c.args.part.now c.in-Some.point.now is c.get.ensures.value) at c.in_ok-put.ensures.ok in
     made_more m (minus m c.args.part.now) c.loop-point.point-iterator c.next.new.self (c.in-Some.point.now, c.in-Some.n.now) c.loop-point.made c.put.new.self step c.loop-point.invariant set_is
 
 pub returns-clause-ok : goal.returns-clause-ok
