@@ -1,12 +1,14 @@
 -- A change that is computed point by point, and the sum and the difference computed in this way.
-use Rattle.std.proofs.Common.{◌≡◌, ◌≢◌, ◌≤◌, ◌<◌, ◌+◌, ◌*◌, ◌||◌, ◌⊎◌, ℕ, zero, suc, ℤ, pos, negsuc, append_assoc, length-append, ◌+ℤ◌, ◌-ℤ◌, Bool, true, false, cond, List, [], ◌∷◌, ◌++◌, take, drop, length, get_or, w64, to_z, of_z, FitsSigned, unsigned_abs, refl, sym, ap, subst, ◌∙◌, inl, inr, arith}
+use Rattle.std.proofs.Common.{◌≡◌, ◌≢◌, ◌≤◌, ◌<◌, ◌+◌, ◌*◌, ◌||◌, ◌⊎◌, ℕ, ℤ, pos, append_assoc, length-append, ◌+ℤ◌, ◌-ℤ◌, Bool, true, false, cond, List, [], ◌∷◌, ◌++◌, take, drop, length, get_or, Option, Some, w64, to_z, of_z, FitsSigned, unsigned_abs, refl, sym, ap, subst, ◌∙◌, inl, inr, arith}
 use Rattle.std.proofs.lemmas.Bool.{cond_both, cond-false, or_parts}
 use Rattle.std.proofs.lemmas.Int.{ints, to_z-of_z, fits_signed_from_abs}
 use Rattle.std.proofs.lemmas.List.{take_all, map_more, map-append, append-nil, take-append-drop, take-map}
 use Rattle.std.proofs.lemmas.List.Folds.{list_any-append, list_any_more}
+use Rattle.std.proofs.lemmas.Map.Iter.{rest_more}
 use Rattle.std.proofs.lemmas.Map.Views.{tells_apart}
 use Rattle.std.proofs.Math.Bool.{or-false}
 use Rattle.std.proofs.Math.Seq.{get_or-append_seam}
+use Rattle.std.specs.Map.Iter.{TakesFirst}
 use Rattle.std.specs.Prelude.{Any}
 use Rattle.nd_time.specs.Limits.{max_count}
 use Rattle.nd_map.specs.Cases.{zero_or_not}
@@ -143,12 +145,14 @@ module _ (m n : DeltaValue) where
     made = one_more e.0 h.made is (λ q. ap (has_point q) (map-append (λ y. y.0) h.came (e ∷ [])) ∙ named (points_of h.came) e.0 q);
   }
 
-  -- the next entry has its point's integer
-  pub made_next : (rest es : List (Pointstamp × ℤ)) (e : Pointstamp × ℤ) (s : DeltaValue) → rest ≡ e ∷ es → IsMade m n rest s → e.1 ≡ at m e.0
-  made_next rest es e s step h =
-      let all : h.came ++ e ∷ es ≡ entries m = ap (λ fs. h.came ++ fs) (sym step) ∙ h.all in
-      let lt : length h.came < length (entries m) = subst (λ fs. length h.came < length fs) all (rw (length-append h.came (e ∷ es)) (omega arith)) in
-      at-index m (length h.came) e lt (sym (get_or-append_seam h.came e es e) ∙ ap (λ fs. get_or fs (length h.came) e) all)
+  -- the entry x that the iterator returned has its point's integer
+  pub made_next : {A : Type 0} (shows : A → Pointstamp × ℤ) (rest es : List (Pointstamp × ℤ)) (r : Option A) (x : A) {s : DeltaValue} → r ≡ Some x → TakesFirst shows rest r es → IsMade m n rest s
+      → record { step : rest ≡ shows x ∷ es; is : (shows x).1 ≡ at m (shows x).0 }
+  made_next shows rest es r x is steps h =
+      let step : rest ≡ shows x ∷ es = rest_more shows rest es r x is steps in
+      let all : h.came ++ shows x ∷ es ≡ entries m = ap (λ fs. h.came ++ fs) (sym step) ∙ h.all in
+      let lt : length h.came < length (entries m) = subst (λ fs. length h.came < length fs) all (rw (length-append h.came (shows x ∷ es)) (omega arith)) in
+      record { step = step; is = at-index m (length h.came) (shows x) lt (sym (get_or-append_seam h.came (shows x) es (shows x)) ∙ ap (λ fs. get_or fs (length h.came) (shows x)) all) }
 
   -- after the last entry, if n has entries only at points at which m has some
   pub made_last : (rest : List (Pointstamp × ℤ)) (s : DeltaValue) → rest ≡ [] → ((q : Pointstamp) → at m q ≡ pos 0 → at n q ≡ pos 0) → IsMade m n rest s → s ≡ n
@@ -163,15 +167,15 @@ module _ (m n : DeltaValue) where
 pub minus_none : (m : DeltaValue) → minus m none ≡ m
 minus_none m = same _ _ (λ q. let d = at-minus m none q in let e = at-none q in omega (arith, ints, d, e))
 
-stays_of : (x y : ℤ) → (y ≢ pos 0 → x ≡ y) → (x -ℤ y ≡ x) ⊎ (x -ℤ y ≡ pos 0)
-stays_of x (pos zero) h = inl (omega (arith, ints))
-stays_of x (pos (suc k)) h = let e : x ≡ pos (suc k) = h (λ z. absurd (cc)) in inr (omega (arith, ints))
-stays_of x (negsuc k) h = let e : x ≡ negsuc k = h (λ z. absurd (cc)) in inr (omega (arith, ints))
-
 module _ (m piece : DeltaValue) (h : IsPartOf piece m) where
   -- an entry stays as it is, or is removed
   stays : (q : Pointstamp) → (at (minus m piece) q ≡ at m q) ⊎ (at (minus m piece) q ≡ pos 0)
-  stays q = rw at-minus (stays_of (at m q) (at piece q) (h q))
+  stays q =
+      let d = at-minus m piece q in
+      elim (zero_or_not (at piece q)) [
+        | inl nothing ↦ inl (omega (arith, ints, d, nothing))
+        | inr some ↦ let e = h q some in inr (omega (arith, ints, d, e))
+      ]
 
   pub stays_absent : (q : Pointstamp) → at m q ≡ pos 0 → at (minus m piece) q ≡ pos 0
   stays_absent q e = elim (stays q) [ inl s ↦ s ∙ e | inr s ↦ s ]

@@ -1,4 +1,4 @@
-//! What both stores of changes share: sums, differences and parts, by the integers that they look up.
+//! What both stores of changes share: sums, differences and parts, by looking integers up.
 ghost use Rattle.std.specs.Prelude.{◌≡◌, ◌≢◌, [], ◌↔◌, ◌≤◌, ◌*◌, unsigned_abs, OnErr, IfOk, IsTrue};
 ghost use Rattle.nd_time.specs.Limits.{max_count};
 ghost use Rattle.nd_delta.specs.Delta.{DeltaValue, at, combined, part, IsTooLarge, IsWithin};

@@ -2,7 +2,7 @@
 //! A `Delta` stores them in a sorted list, a `LargeDelta` in a map that becomes a tree as it grows.
 #![tactic(auto)]
 
-ghost use Rattle.std.specs.Prelude.{◌≡◌, ◌≢◌, [], ◌↔◌, ◌<◌, ◌≤◌, ◌+ℤ◌, ◌<ℤ◌, ◌*◌, pos, unsigned_abs, length, ◌⊎◌, OnOk, OnErr, IfOk, IfSome, IsSomeAnd, IsNone, IsTrue, Err, Any, Contains};
+ghost use Rattle.std.specs.Prelude.{◌≡◌, ◌≢◌, [], ◌↔◌, ◌<◌, ◌≤◌, ◌+ℤ◌, ◌<ℤ◌, pos, unsigned_abs, length, ◌⊎◌, OnOk, OnErr, IfOk, IfSome, IsSomeAnd, IsNone, IsTrue, Err, Any, Contains};
 ghost use Rattle.nd_time.specs.Limits.{max_count};
 ghost use Rattle.nd_paths.specs.Order.{CouldResultIn, IsStrictlyBefore};
 ghost use Rattle.nd_paths.specs.declared.point.Pointstamp.{Pointstamp};

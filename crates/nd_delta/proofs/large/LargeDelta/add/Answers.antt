@@ -1,4 +1,4 @@
-use Rattle.std.proofs.Common.{rules, ◌≡◌, ◌≢◌, ◌<◌, ◌≤◌, ◌+ℤ◌, ℤ, pos, Some, unsigned_abs, refl, sym, arith}
+use Rattle.std.proofs.Common.{rules, ◌≡◌, ◌≢◌, ◌<◌, ◌≤◌, ◌+ℤ◌, pos, Some, unsigned_abs, refl, sym, arith}
 use Rattle.std.proofs.lemmas.Int.{ints}
 use Rattle.nd_time.specs.Limits.{max_count}
 use Rattle.nd_delta.specs.Delta.{at}
