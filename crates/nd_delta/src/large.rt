@@ -72,6 +72,7 @@ impl<A: Allocator> LargeDelta<A> {
     }
 
     /// Returns an iterator over the entries in the order of listing.
+    #[tactic(auto, using(crate::proofs::KeptLemmas::listed, crate::proofs::KeptLemmas::all_within))]
     pub fn iter(&self) -> Iter<'_, Pointstamp, i64>
         ensures rest { result ≡ listed self.now }
         ensures runs { ShowsInOrder (deref_pair {K = Point} {X = ℤ}) }
@@ -107,6 +108,7 @@ impl<A: Allocator> LargeDelta<A> {
     }
 
     /// Returns the number of entries.
+    #[tactic(auto, using(crate::proofs::KeptLemmas::listed))]
     pub fn len(&self) -> usize
         ensures { result ≡ size self.now }
     {

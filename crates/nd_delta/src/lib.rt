@@ -147,6 +147,7 @@ impl<A: Allocator> Delta<A> {
     }
 
     /// Returns the entries in the order of listing.
+    #[tactic(auto, using(crate::proofs::KeptLemmas::listed, crate::proofs::KeptLemmas::all_within))]
     pub fn entries(&self) -> &[(Pointstamp, i64)]
         ensures listed { result.now ≡ listed self.now }
         ensures within { IsWithin self.now }
