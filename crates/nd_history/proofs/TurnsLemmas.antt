@@ -1,12 +1,16 @@
--- Turns: one more position, and the least hit.
-use Rattle.std.proofs.Common.{◌≡◌, ◌≢◌, ◌↔◌, ◌<◌, ◌≤◌, ℕ, zero, suc, ◌+◌, ◌-◌, Bool, true, false, cond, List, [], ◌∷◌, ◌++◌, length, get_or, Some, inl, inr, refl, sym, subst, ◌∙◌, arith, length-append}
+-- Turns: one more position, the history of a condition, and the least hit.
+use Rattle.std.proofs.Common.{◌≡◌, ◌≢◌, ◌↔◌, ◌<◌, ◌≤◌, ℕ, zero, suc, ◌+◌, ◌-◌, ℤ, pos, Bool, true, false, cond, List, [], ◌∷◌, ◌++◌, map, length, get_or, Some, inl, inr, refl, sym, subst, ◌∙◌, arith}
 use Rattle.std.specs.Prelude.{slice_get, Contains, IsTrue, MatchBool}
 use Rattle.std.proofs.lemmas.Bool.{cases_lt}
+use Rattle.std.proofs.lemmas.List.{length-map, map-append}
 use Rattle.std.proofs.lemmas.List.Elements.{Contains-get_or, Contains-append_left, Contains-push, Contains-push_cases}
 use Rattle.std.proofs.lemmas.List.Quantifiers.{all_pairs_push}
 use Rattle.nd_time.specs.Limits.{max_told}
 use Rattle.nd_history.specs.Least.{NoHit, IsLeast}
-use Rattle.nd_history.specs.Turns.{Differs, IsTurn, AreTurns, AreFirstTurns, AreAllTurns, AreListed, IsAdded, first_hit_of}
+use Rattle.nd_history.specs.Turns.{Differs, IsTurn, AreTurns, AreFirstTurns, AreAllTurns, AreListed, first_hit_of}
+use Rattle.nd_history.specs.History.{ShowsIf, ChangesTo, AreChanges, none_yet, no_change, one_change, AreFirst, AreAll, IsHistory}
+use Rattle.nd_history.specs.declared.told.Changed.{Changed}
+use Rattle.nd_history.specs.declared.told.Told.{Told}
 use Rattle.nd_history.specs.declared.turned.Turns.{Turns}
 
 module _ (Hit : ℕ → Type 0) where
@@ -64,77 +68,58 @@ module _ (Hit : ℕ → Type 0) where
             | inr more ↦ let within : k ≤ i + 1 = t.within in let here : i + 1 ≡ k = omega (arith, within, more) in subst (Contains (ks ++ (i + 1) ∷ [])) here (Contains-push ks (i + 1))
           ]
 
-  -- ---- what is listed
+  -- ---- the history of whether there is a hit
 
-  module _ {A : Type 0} where
-    all_of : (lo hi : ℕ) (t : Turns A) → AreListed Hit lo hi t → t.more ≡ false → AreAllTurns Hit lo hi t.positions
-    all_of lo hi t is none = subst (λ b. MatchBool b (AreFirstTurns Hit lo hi t.positions) (AreAllTurns Hit lo hi t.positions)) none is.listed
-
-    as_all : (lo hi : ℕ) (t : Turns A) → IsTrue t.at_lo ↔ Hit lo → t.more ≡ false → AreAllTurns Hit lo hi t.positions → AreListed Hit lo hi t
-    as_all lo hi t at_lo none all = record { at_lo = at_lo; listed = subst (λ b. MatchBool b (AreFirstTurns Hit lo hi t.positions) (AreAllTurns Hit lo hi t.positions)) (sym none) all }
-
-    -- none are listed yet
-    pub listed_none : (lo : ℕ) (t : Turns A) (b : Bool) → t.at_lo ≡ b → t.positions ≡ [] → t.more ≡ false → IsTrue b ↔ Hit lo → AreListed Hit lo lo t
-    listed_none lo t b at_lo positions more held =
-        as_all lo lo t (subst (λ b. IsTrue b ↔ Hit lo) (sym at_lo) held) more
-        (subst (AreAllTurns Hit lo lo) (sym positions) (record { few = omega arith; all = no_turns lo }))
-
-  module _ (lo i : ℕ) (le : lo ≤ i) (before after : Bool) (was : IsTrue before ↔ Hit i) (is : IsTrue after ↔ Hit (i + 1)) where
+  module _ (i : ℕ) where
     here : i + 1 - 1 ≡ i
     here = omega arith
 
-    turned : after ≢ before → Differs Hit (i + 1)
-    turned other = by after before refl refl
-      where
-        by : (a b : Bool) → after ≡ a → before ≡ b → Differs Hit (i + 1)
-        by true true a b = absurd (other (a ∙ sym b))
-        by false false a b = absurd (other (a ∙ sym b))
-        by true false a b = inl (is.0 a, λ h. let yes : before ≡ true = was.1 (subst Hit here h) in cc)
-        by false true a b = inr ((λ h. let yes : after ≡ true = is.1 h in cc), subst Hit (sym here) (was.0 b))
+    turned : (m n : ℤ) → ShowsIf (Hit i) m → ShowsIf (Hit (i + 1)) n → n ≢ m → Differs Hit (i + 1)
+    turned m n (inl was) (inr is) differs = inr (is.1, subst Hit (sym here) was.1)
+    turned m n (inr was) (inl is) differs = inl (is.1, λ hit. was.1 (subst Hit here hit))
+    turned m n (inl was) (inl is) differs = absurd (differs (is.0 ∙ sym was.0))
+    turned m n (inr was) (inr is) differs = absurd (differs (is.0 ∙ sym was.0))
 
-    module _ {A : Type 0} where
-      -- the condition holds as before
-      pub listed_same : (t : Turns A) → after ≡ before → t.more ≡ false → AreListed Hit lo i t → AreListed Hit lo (i + 1) t
-      listed_same t same none listed =
-          let all = all_of lo i t listed none in
-          as_all lo (i + 1) t listed.at_lo none (record { few = all.few; all = no_more lo i t.positions all.all differs })
-        where
-          differs : Differs Hit (i + 1) → ⊥
-          differs (inl d) = d.1 (subst Hit (sym here) (was.0 (sym same ∙ is.1 d.0)))
-          differs (inr d) = d.0 (is.0 (same ∙ was.1 (subst Hit here d.1)))
+    unturned : (n : ℤ) → ShowsIf (Hit i) n → ShowsIf (Hit (i + 1)) n → Differs Hit (i + 1) → ⊥
+    unturned n (inl was) (inl is) (inl d) = d.1 (subst Hit (sym here) was.1)
+    unturned n (inl was) (inl is) (inr d) = d.0 is.1
+    unturned n (inr was) (inr is) (inl d) = is.1 d.0
+    unturned n (inr was) (inr is) (inr d) = was.1 (subst Hit here d.1)
+    unturned n (inl was) (inr is) d = let never : pos 1 ≡ pos 0 = sym was.0 ∙ is.0 in cc
+    unturned n (inr was) (inl is) d = let never : pos 0 ≡ pos 1 = sym was.0 ∙ is.0 in cc
 
-      -- the condition turns, and there is room for one more turn
-      listed_room : (old new : Turns A) → after ≢ before → old.more ≡ false → AreListed Hit lo i old → IsAdded old (i + 1) new → length old.positions < max_told → AreListed Hit lo (i + 1) new
-      listed_room old new other none listed added room =
-          let all = all_of lo i old listed none in
-          let longer : new.positions ≡ old.positions ++ (i + 1) ∷ [] = (added.room room).0 in
-          let count : length (old.positions ++ (i + 1) ∷ []) ≡ length old.positions + 1 = length-append old.positions ((i + 1) ∷ []) in
-          as_all lo (i + 1) new (subst (λ b. IsTrue b ↔ Hit lo) (sym added.at_lo) listed.at_lo) ((added.room room).1 ∙ none)
-          (subst (AreAllTurns Hit lo (i + 1)) (sym longer) (record { few = omega (arith, count, room); all = one_more lo i old.positions le all.all (turned other) }))
+  -- the changes that were observed are the turns
+  turns_of : {lo end : ℕ} {cs : List Changed} → AreChanges (λ i. ShowsIf (Hit i)) lo end cs → (lo ≤ end) × AreTurns Hit lo end (map (λ c. c.position) cs)
+  turns_of {lo} none_yet = (omega arith, no_turns lo)
+  turns_of {lo} (no_change i cs n earlier was is) = let h = turns_of earlier in (omega (arith, h.0), no_more lo i (map (λ c. c.position) cs) h.1 (unturned i n was is))
+  turns_of {lo} (one_change i cs n earlier c) =
+      let h = turns_of earlier in
+      let longer : map (λ (c : Changed). c.position) (cs ++ record { position = i + 1; entry = n } ∷ []) ≡ map (λ c. c.position) cs ++ (i + 1) ∷ [] = map-append (λ (c : Changed). c.position) cs (record { position = i + 1; entry = n } ∷ []) in
+      (omega (arith, h.0), subst (AreTurns Hit lo (i + 1)) (sym longer) (one_more lo i (map (λ c. c.position) cs) h.0 h.1 (turned i c.before n c.was c.is c.differs)))
 
-      -- there is no room
-      pub listed_more : (hi : ℕ) (old new : Turns A) → i + 1 ≤ hi → after ≢ before → old.more ≡ false → AreListed Hit lo i old → IsAdded old (i + 1) new → new.more ≡ true → AreListed Hit lo hi new
-      listed_more hi old new on other none listed added some =
-          elim (cases_lt (length old.positions) max_told) [
-            | inl room ↦ let no : new.more ≡ false = (added.room room).1 ∙ none in absurd (let never : true ≡ false = sym some ∙ no in cc)
-            | inr full ↦
-                let all = all_of lo i old listed none in
-                let few : length old.positions ≤ max_told = all.few in
-                let next : IsTurn Hit lo hi (i + 1) = record { above = omega (arith, le); within = on; differs = turned other } in
-                let first : AreFirstTurns Hit lo hi old.positions = record { count = omega (arith, few, full); next = i + 1; more = next; first = subst (λ n. AreTurns Hit lo n old.positions) (sym here) all.all } in
-                record {
-                  at_lo = subst (λ b. IsTrue b ↔ Hit lo) (sym added.at_lo) listed.at_lo;
-                  listed = subst (λ b. MatchBool b (AreFirstTurns Hit lo hi new.positions) (AreAllTurns Hit lo hi new.positions)) (sym some) (subst (AreFirstTurns Hit lo hi) (sym (added.full full).0) first);
-                }
-          ]
+  -- ---- what is listed
 
-      -- one more turn is listed
-      pub listed_other : (old new : Turns A) → after ≢ before → old.more ≡ false → AreListed Hit lo i old → IsAdded old (i + 1) new → new.more ≡ false → AreListed Hit lo (i + 1) new
-      listed_other old new other none listed added not_more =
-          elim (cases_lt (length old.positions) max_told) [
-            | inl room ↦ listed_room old new other none listed added room
-            | inr full ↦ absurd (let never : true ≡ false = sym (added.full full).1 ∙ not_more in cc)
-          ]
+  listed_if : (b : Bool) (lo hi : ℕ) (cs : List Changed) → MatchBool b (AreFirst (λ i. ShowsIf (Hit i)) lo hi cs) (AreAll (λ i. ShowsIf (Hit i)) lo hi cs)
+      → MatchBool b (AreFirstTurns Hit lo hi (map (λ c. c.position) cs)) (AreAllTurns Hit lo hi (map (λ c. c.position) cs))
+  listed_if true lo hi cs are =
+      let end : ℕ = are.end in
+      let back : end ≡ end + 1 - 1 = omega arith in
+      let h = turns_of are.first in record {
+        count = length-map cs (λ (c : Changed). c.position) ∙ are.count;
+        next = end + 1;
+        more = record { above = omega (arith, h.0); within = omega (arith, are.within); differs = turned end are.more.before are.next are.more.was are.more.is are.more.differs };
+        first = subst (λ n. AreTurns Hit lo n (map (λ c. c.position) cs)) back h.1;
+      }
+  listed_if false lo hi cs are = record { few = omega (arith, are.few, length-map cs (λ (c : Changed). c.position)); all = (turns_of are.all).1 }
+
+  -- the history of whether there is a hit is what is listed of the turns
+  pub listed_of : {A : Type 0} (lo hi : ℕ) (told : Told A) (t : Turns A) → IsTrue t.at_lo ↔ Hit lo → t.positions ≡ map (λ c. c.position) told.changes → t.more ≡ told.more
+      → IsHistory (λ i. ShowsIf (Hit i)) lo hi told → AreListed Hit lo hi t
+  listed_of lo hi told t at_lo positions more is = record {
+    at_lo = at_lo;
+    listed = subst (λ ks. MatchBool t.more (AreFirstTurns Hit lo hi ks) (AreAllTurns Hit lo hi ks)) (sym positions)
+        (subst (λ b. MatchBool b (AreFirstTurns Hit lo hi (map (λ c. c.position) told.changes)) (AreAllTurns Hit lo hi (map (λ c. c.position) told.changes))) (sym more) (listed_if told.more lo hi told.changes is));
+  }
 
   -- ---- the least hit
 
