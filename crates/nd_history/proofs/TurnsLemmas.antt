@@ -7,11 +7,15 @@ use Rattle.std.proofs.lemmas.List.Elements.{Contains-get_or, Contains-append_lef
 use Rattle.std.proofs.lemmas.List.Quantifiers.{all_pairs_push}
 use Rattle.nd_time.specs.Limits.{max_told}
 use Rattle.nd_history.specs.Least.{NoHit, IsLeast}
-use Rattle.nd_history.specs.Turns.{Differs, IsTurn, AreTurns, AreFirstTurns, AreAllTurns, AreListed, first_hit_of}
+use Rattle.nd_history.specs.Turns.{Differs, IsTurn, AreTurns, AreFirstTurns, AreAllTurns, AreListed}
+use Rattle.nd_history.proofs.WalkLemmas.{no_hit_more}
 use Rattle.nd_history.specs.History.{ShowsIf, ChangesTo, AreChanges, none_yet, no_change, one_change, AreFirst, AreAll, IsHistory}
 use Rattle.nd_history.specs.declared.told.Changed.{Changed}
 use Rattle.nd_history.specs.declared.told.Told.{Told}
 use Rattle.nd_history.specs.declared.turned.Turns.{Turns}
+
+abbrev pub positions_of : List Changed → List ℕ
+positions_of cs = map (λ c. c.position) cs
 
 module _ (Hit : ℕ → Type 0) where
   -- ---- one more position
@@ -89,18 +93,18 @@ module _ (Hit : ℕ → Type 0) where
     unturned n (inr was) (inl is) d = let never : pos 0 ≡ pos 1 = sym was.0 ∙ is.0 in cc
 
   -- the changes that were observed are the turns
-  turns_of : {lo end : ℕ} {cs : List Changed} → AreChanges (λ i. ShowsIf (Hit i)) lo end cs → (lo ≤ end) × AreTurns Hit lo end (map (λ c. c.position) cs)
+  turns_of : {lo end : ℕ} {cs : List Changed} → AreChanges (λ i. ShowsIf (Hit i)) lo end cs → (lo ≤ end) × AreTurns Hit lo end (positions_of cs)
   turns_of {lo} none_yet = (omega arith, no_turns lo)
-  turns_of {lo} (no_change i cs n earlier was is) = let h = turns_of earlier in (omega (arith, h.0), no_more lo i (map (λ c. c.position) cs) h.1 (unturned i n was is))
+  turns_of {lo} (no_change i cs n earlier was is) = let h = turns_of earlier in (omega (arith, h.0), no_more lo i (positions_of cs) h.1 (unturned i n was is))
   turns_of {lo} (one_change i cs n earlier c) =
       let h = turns_of earlier in
-      let longer : map (λ (c : Changed). c.position) (cs ++ record { position = i + 1; entry = n } ∷ []) ≡ map (λ c. c.position) cs ++ (i + 1) ∷ [] = map-append (λ (c : Changed). c.position) cs (record { position = i + 1; entry = n } ∷ []) in
-      (omega (arith, h.0), subst (AreTurns Hit lo (i + 1)) (sym longer) (one_more lo i (map (λ c. c.position) cs) h.0 h.1 (turned i c.before n c.was c.is c.differs)))
+      let longer = map-append (λ (c : Changed). c.position) cs (record { position = i + 1; entry = n } ∷ []) in
+      (omega (arith, h.0), subst (AreTurns Hit lo (i + 1)) (sym longer) (one_more lo i (positions_of cs) h.0 h.1 (turned i c.before n c.was c.is c.differs)))
 
   -- ---- what is listed
 
   listed_if : (b : Bool) (lo hi : ℕ) (cs : List Changed) → MatchBool b (AreFirst (λ i. ShowsIf (Hit i)) lo hi cs) (AreAll (λ i. ShowsIf (Hit i)) lo hi cs)
-      → MatchBool b (AreFirstTurns Hit lo hi (map (λ c. c.position) cs)) (AreAllTurns Hit lo hi (map (λ c. c.position) cs))
+      → MatchBool b (AreFirstTurns Hit lo hi (positions_of cs)) (AreAllTurns Hit lo hi (positions_of cs))
   listed_if true lo hi cs are =
       let end : ℕ = are.end in
       let back : end ≡ end + 1 - 1 = omega arith in
@@ -108,84 +112,51 @@ module _ (Hit : ℕ → Type 0) where
         count = length-map cs (λ (c : Changed). c.position) ∙ are.count;
         next = end + 1;
         more = record { above = omega (arith, h.0); within = omega (arith, are.within); differs = turned end are.more.before are.next are.more.was are.more.is are.more.differs };
-        first = subst (λ n. AreTurns Hit lo n (map (λ c. c.position) cs)) back h.1;
+        first = subst (λ n. AreTurns Hit lo n (positions_of cs)) back h.1;
       }
   listed_if false lo hi cs are = record { few = omega (arith, are.few, length-map cs (λ (c : Changed). c.position)); all = (turns_of are.all).1 }
 
   -- the history of whether there is a hit is what is listed of the turns
-  pub listed_of : {A : Type 0} (lo hi : ℕ) (told : Told A) (t : Turns A) → IsTrue t.at_lo ↔ Hit lo → t.positions ≡ map (λ c. c.position) told.changes → t.more ≡ told.more
+  pub listed_of : {A : Type 0} (lo hi : ℕ) (told : Told A) (t : Turns A) → IsTrue t.at_lo ↔ Hit lo → t.positions ≡ positions_of told.changes → t.more ≡ told.more
       → IsHistory (λ i. ShowsIf (Hit i)) lo hi told → AreListed Hit lo hi t
-  listed_of lo hi told t at_lo positions more is = record {
-    at_lo = at_lo;
-    listed = subst (λ ks. MatchBool t.more (AreFirstTurns Hit lo hi ks) (AreAllTurns Hit lo hi ks)) (sym positions)
-        (subst (λ b. MatchBool b (AreFirstTurns Hit lo hi (map (λ c. c.position) told.changes)) (AreAllTurns Hit lo hi (map (λ c. c.position) told.changes))) (sym more) (listed_if told.more lo hi told.changes is));
-  }
+  listed_of lo hi told t at_lo positions more is =
+      let Listed : Bool → List ℕ → Type 0 = λ b ks. MatchBool b (AreFirstTurns Hit lo hi ks) (AreAllTurns Hit lo hi ks) in
+      record { at_lo = at_lo; listed = subst (Listed t.more) (sym positions) (subst (λ b. Listed b (positions_of told.changes)) (sym more) (listed_if told.more lo hi told.changes is)) }
 
   -- ---- the least hit
 
-  -- without a hit at the first position there is none before the first turn
-  stays : (lo n : ℕ) → (Hit lo → ⊥) → ((k : ℕ) → IsTurn Hit lo (lo + n) k → ⊥) → Hit (lo + n) → ⊥
-  stays lo zero none without hit = let same : lo + zero ≡ lo = omega arith in none (subst Hit same hit)
-  stays lo (suc n) none without hit =
-      let back : lo + suc n - 1 ≡ lo + n = omega arith in
-      without (lo + suc n) (record {
-        above = omega arith;
-        within = omega arith;
-        differs = inl (hit, λ h. stays lo n none (λ k t. without k (wider lo (lo + n) (lo + suc n) k (omega arith) t)) (subst Hit back h));
-      })
-
-  none_before : (lo i : ℕ) → lo ≤ i → (Hit lo → ⊥) → ((k : ℕ) → IsTurn Hit lo i k → ⊥) → Hit i → ⊥
-  none_before lo i le none without hit =
-      let there : lo + (i - lo) ≡ i = omega (arith, le) in
-      stays lo (i - lo) none (λ k t. without k (subst (λ n. IsTurn Hit lo n k) there t)) (subst Hit (sym there) hit)
-
-  first_of : (lo end hi : ℕ) (ks : List ℕ) → end ≤ hi → (length ks ≡ 0 → end ≡ hi) → (Hit lo → ⊥) → AreTurns Hit lo end ks → IsLeast Hit lo hi (slice_get ks 0)
-  first_of lo end hi [] le all none are = λ i from lt. none_before lo i from none (λ k t. let same : end ≡ hi = all refl in let within : k ≤ i = t.within in
-      let c : Contains [] k = (are.exact k).1 (wider lo i end k (omega (arith, lt, same)) t) in let no : c.0 < 0 = c.1 in omega (arith, no))
-  first_of lo end hi (k ∷ ks) le all none are =
-      (omega (arith, above), omega (arith, within, le), hit, before)
+  -- if there is no hit at the first position, the first turn is the least hit
+  least : {lo end : ℕ} {cs : List Changed} → AreChanges (λ i. ShowsIf (Hit i)) lo end cs → (Hit lo → ⊥) → IsLeast Hit lo end (slice_get (positions_of cs) 0)
+  least {lo} none_yet before = λ i from lt hit. let same : i ≡ lo = omega (arith, from, lt) in before (subst Hit same hit)
+  least {lo} (no_change i cs n earlier was is) before = by cs (least earlier before)
     where
-      turn : IsTurn Hit lo end k
-      turn = (are.exact k).0 (0, omega arith, refl)
-
-      above : lo < k
-      above = turn.above
-
-      within : k ≤ end
-      within = turn.within
-
-      -- each other turn comes later
-      later : (j : ℕ) → IsTurn Hit lo end j → k ≤ j
-      later j t = by ((are.exact j).1 t)
-        where
-          by : Contains (k ∷ ks) j → k ≤ j
-          by c = elim (cases_lt 0 c.0) [
-            | inl some ↦ let lt : k < get_or (k ∷ ks) c.0 j = are.ascending 0 c.0 j some c.1 in let at : get_or (k ∷ ks) c.0 j ≡ j = c.2 in omega (arith, lt, at)
-            | inr first ↦ let zeroth : c.0 ≡ 0 = omega (arith, first) in let at : k ≡ j = subst (λ n. get_or (k ∷ ks) n j ≡ j) zeroth c.2 in omega (arith, at)
-          ]
-
-      before : NoHit Hit lo k
-      before i from lt = none_before lo i from none (λ j t. let le : k ≤ j = later j (wider lo i end j (omega (arith, lt, within)) t) in let w : j ≤ i = t.within in omega (arith, le, w, lt))
-
-      hit : Hit k
-      hit = elim turn.differs [
+      by : (cs : List Changed) → IsLeast Hit lo i (slice_get (positions_of cs) 0) → IsLeast Hit lo (i + 1) (slice_get (positions_of cs) 0)
+      by [] free = no_hit_more Hit lo (i + 1) free (λ hit. unturned i n was is (inl (hit, λ h. free i (turns_of earlier).0 (omega arith) (subst Hit (here i) h))))
+      by (c ∷ cs) h = (h.0, omega (arith, h.1), h.2, h.3)
+  least {lo} (one_change i cs n earlier c) before = by cs (least earlier before)
+    where
+      hit : NoHit Hit lo (i + 1) → Hit (i + 1)
+      hit free = elim (turned i c.before n c.was c.is c.differs) [
         | inl d ↦ d.0
-        | inr d ↦ absurd (before (k - 1) (omega (arith, above)) (omega (arith, above)) d.1)
+        | inr d ↦ absurd (free i (turns_of earlier).0 (omega arith) (subst Hit (here i) d.1))
       ]
 
-  pub least_of : {A : Type 0} (lo hi : ℕ) (t : Turns A) → lo ≤ hi → AreListed Hit lo hi t → IsLeast Hit lo hi (first_hit_of lo t)
-  least_of lo hi t le is =
-      elim t.at_lo as (λ b. t.at_lo ≡ b → IsLeast Hit lo hi (cond b (Some lo) (slice_get t.positions 0))) [
-        | true ↦ λ e. (omega arith, le, is.at_lo.0 e, λ i from lt. absurd (omega (arith, from, lt)))
-        | false ↦ λ e. rest (λ h. let yes : t.at_lo ≡ true = is.at_lo.1 h in let never : true ≡ false = sym yes ∙ e in cc)
-      ] refl
-    where
-      listed : (b : Bool) → MatchBool b (AreFirstTurns Hit lo hi t.positions) (AreAllTurns Hit lo hi t.positions) → (Hit lo → ⊥) → IsLeast Hit lo hi (slice_get t.positions 0)
-      listed true first none =
-          let within : first.next ≤ hi = first.more.within in
-          let count : length t.positions ≡ max_told = first.count in
-          first_of lo (first.next - 1) hi t.positions (omega (arith, within)) (λ empty. absurd (omega (arith, empty, count))) none first.first
-      listed false all none = first_of lo hi hi t.positions (omega arith) (λ _. refl) none all.all
+      by : (cs : List Changed) → IsLeast Hit lo i (slice_get (positions_of cs) 0) → IsLeast Hit lo (i + 1) (slice_get (positions_of (cs ++ record { position = i + 1; entry = n } ∷ [])) 0)
+      by [] free = (omega (arith, (turns_of earlier).0), omega arith, hit free, free)
+      by (c ∷ cs) h = (h.0, omega (arith, h.1), h.2, h.3)
 
-      rest : (Hit lo → ⊥) → IsLeast Hit lo hi (slice_get t.positions 0)
-      rest none = listed t.more is.listed none
+  -- it is that of a longer range, too
+  longer : (lo end hi : ℕ) (ks : List ℕ) → 0 < length ks → end ≤ hi → IsLeast Hit lo end (slice_get ks 0) → IsLeast Hit lo hi (slice_get ks 0)
+  longer lo end hi [] some le h = absurd (omega (arith, some))
+  longer lo end hi (k ∷ ks) some le h = (h.0, omega (arith, h.1, le), h.2, h.3)
+
+  pub least_of : {A : Type 0} (lo hi : ℕ) (told : Told A) (b : Bool) → lo ≤ hi → IsTrue b ↔ Hit lo → IsHistory (λ i. ShowsIf (Hit i)) lo hi told → IsLeast Hit lo hi (cond b (Some lo) (slice_get (positions_of told.changes) 0))
+  least_of lo hi told true le at_lo is = (omega arith, le, at_lo.0 refl, λ i from lt. absurd (omega (arith, from, lt)))
+  least_of lo hi told false le at_lo is = by told.more is
+    where
+      none : Hit lo → ⊥
+      none hit = let never : false ≡ true = at_lo.1 hit in cc
+
+      by : (b : Bool) → MatchBool b (AreFirst (λ i. ShowsIf (Hit i)) lo hi told.changes) (AreAll (λ i. ShowsIf (Hit i)) lo hi told.changes) → IsLeast Hit lo hi (slice_get (positions_of told.changes) 0)
+      by true are = longer lo are.end hi (positions_of told.changes) (omega (arith, are.count, length-map told.changes (λ (c : Changed). c.position))) (omega (arith, are.within)) (least are.first none)
+      by false are = least are.all none

@@ -55,9 +55,9 @@ pub fn turns<A: Allocator + Copy>(
     ensures cannot { IfErr result (CannotTurn timeline.now lo hi) }
 {
     check(timeline, lo, hi)?;
-    let walk = walk_at(alloc, timeline, lo)?;
+    let mut walk = walk_at(alloc, timeline, lo)?;
     let at_lo = condition.holds(&walk.cluster);
-    let told = history(alloc, timeline, walk, condition, hi)?;
+    let told = history(alloc, timeline, &mut walk, condition, hi)?;
     let positions = PositionList::of(alloc, told.changes.as_slice())?;
     Ok(Turns {
         at_lo,

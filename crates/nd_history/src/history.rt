@@ -58,20 +58,20 @@ pub(crate) fn walk_at<A: Allocator + Copy>(
 pub(crate) fn history<A: Allocator + Copy, O: Observation>(
     alloc: A,
     timeline: &Timeline<A>,
-    mut walk: Walk<A>,
+    walk: &mut Walk<A>,
     observation: &O,
     hi: u64,
 ) -> Result<Told<A>, AllocError>
-    requires on { IsOn timeline.now walk }
-    requires ahead { walk.at ≤ hi }
+    requires on { IsOn timeline.now walk.old }
+    requires ahead { walk.old.at ≤ hi }
     requires within { hi ≤ length timeline.now.kept }
     ensures { IfOk result
-        (IsHistory (shown_at timeline.now (O.Shows observation.now)) walk.at hi) }
+        (IsHistory (shown_at timeline.now (O.Shows observation.now)) walk.old.at hi) }
 {
     let mut changes = Changes::new(alloc);
     let mut before = observation.of(&walk.cluster);
     for at in walk.at..hi {
-        go(timeline, &mut walk, at + 1)?;
+        go(timeline, walk, at + 1)?;
         let after = observation.of(&walk.cluster);
         if after != before {
             if changes.as_slice().len() == MAX_TOLD {

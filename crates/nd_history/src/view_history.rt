@@ -70,6 +70,6 @@ pub fn changes<A: Allocator + Copy>(
     ensures cannot { IfErr result (CannotTell timeline.now q lo hi) }
 {
     check(timeline, q, lo, hi)?;
-    let walk = walk_at(alloc, timeline, lo)?;
-    Ok(history(alloc, timeline, walk, &ViewEntry { q, point }, hi)?)
+    let mut walk = walk_at(alloc, timeline, lo)?;
+    Ok(history(alloc, timeline, &mut walk, &ViewEntry { q, point }, hi)?)
 }

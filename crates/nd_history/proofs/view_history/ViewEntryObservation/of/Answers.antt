@@ -10,5 +10,5 @@ use Rattle.nd_history.proofs.view_history.ViewEntryObservation.of.Goals as goal
 no_entry : (s : ClusterState) (q : ℕ) (x : Pointstamp) → IsState s → length s.processors ≤ q → at (view s q) x ≡ pos 0
 no_entry s q x state past = ap (λ c. at c x) (get_or_past s.views q none (omega (arith, state.fits.each_view, past))) ∙ at-none x
 
-pub returns-then-q-n : goal.returns-then-q-n
-returns-then-q-n g c = sym (no_entry c.args.cluster.now c.args.self.now.q c.args.self.now.point.now c.n.ensures.state (omega (arith, c.if-q-n.true, c.n.ensures.value)))
+pub returns-then-self-n : goal.returns-then-self-n
+returns-then-self-n g c = sym (no_entry c.args.cluster.now c.args.self.now.q c.args.self.now.point.now c.n.ensures.state (omega (arith, c.if-self-n.true, c.n.ensures.value)))
