@@ -1,5 +1,5 @@
 -- The history of an entry: where it changes, and what is listed of that.
-use Rattle.std.proofs.Common.{◌≡◌, ◌<◌, ◌≤◌, ℕ, zero, suc, ◌+◌, ◌-◌, ℤ, Bool, true, false, not, cond, List, [], ◌∷◌, ◌++◌, map, filter, length, refl, sym, ap, subst, ◌∙◌, arith, length-append}
+use Rattle.std.proofs.Common.{◌≡◌, ◌≤◌, ℕ, zero, suc, ◌+◌, ◌-◌, ℤ, Bool, true, false, not, cond, List, [], ◌∷◌, ◌++◌, map, filter, length, refl, sym, ap, subst, ◌∙◌, arith, length-append}
 use Rattle.std.specs.Prelude.{MatchBool}
 use Rattle.std.specs.List.{range_with_len}
 use Rattle.std.specs.Ordering.{int_eq}
@@ -9,7 +9,7 @@ use Rattle.std.proofs.lemmas.List.Elements.{filter-append}
 use Rattle.nd_time.specs.Limits.{max_told}
 use Rattle.nd_history.specs.Changes.{is_other, positions, changed, changes_between}
 use Rattle.nd_history.specs.Told.{IsTold}
-use Rattle.nd_history.specs.History.{ChangesTo, AreChanges, none_yet, no_change, one_change, AreFirst, AreAll, IsHistory}
+use Rattle.nd_history.specs.History.{AreChanges, none_yet, no_change, one_change, AreFirst, AreAll, IsHistory}
 use Rattle.nd_history.specs.declared.told.Changed.{Changed}
 use Rattle.nd_history.specs.declared.told.Told.{Told}
 

@@ -1,15 +1,14 @@
 -- Turns: one more position, the history of a condition, and the least hit.
-use Rattle.std.proofs.Common.{◌≡◌, ◌≢◌, ◌↔◌, ◌<◌, ◌≤◌, ℕ, zero, suc, ◌+◌, ◌-◌, ℤ, pos, Bool, true, false, cond, List, [], ◌∷◌, ◌++◌, map, length, get_or, Some, inl, inr, refl, sym, subst, ◌∙◌, arith}
+use Rattle.std.proofs.Common.{◌≡◌, ◌≢◌, ◌↔◌, ◌<◌, ◌≤◌, ℕ, ◌+◌, ◌-◌, ℤ, pos, Bool, true, false, cond, List, [], ◌∷◌, ◌++◌, map, length, get_or, Some, inl, inr, refl, sym, subst, ◌∙◌, arith}
 use Rattle.std.specs.Prelude.{slice_get, Contains, IsTrue, MatchBool}
 use Rattle.std.proofs.lemmas.Bool.{cases_lt}
 use Rattle.std.proofs.lemmas.List.{length-map, map-append}
 use Rattle.std.proofs.lemmas.List.Elements.{Contains-get_or, Contains-append_left, Contains-push, Contains-push_cases}
 use Rattle.std.proofs.lemmas.List.Quantifiers.{all_pairs_push}
-use Rattle.nd_time.specs.Limits.{max_told}
 use Rattle.nd_history.specs.Least.{NoHit, IsLeast}
 use Rattle.nd_history.specs.Turns.{Differs, IsTurn, AreTurns, AreFirstTurns, AreAllTurns, AreListed}
 use Rattle.nd_history.proofs.WalkLemmas.{no_hit_more}
-use Rattle.nd_history.specs.History.{ShowsIf, ChangesTo, AreChanges, none_yet, no_change, one_change, AreFirst, AreAll, IsHistory}
+use Rattle.nd_history.specs.History.{ShowsIf, AreChanges, none_yet, no_change, one_change, AreFirst, AreAll, IsHistory}
 use Rattle.nd_history.specs.declared.told.Changed.{Changed}
 use Rattle.nd_history.specs.declared.told.Told.{Told}
 use Rattle.nd_history.specs.declared.turned.Turns.{Turns}

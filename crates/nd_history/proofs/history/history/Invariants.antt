@@ -1,5 +1,4 @@
-use Rattle.std.proofs.Common.{◌≡◌, ◌≤◌, length}
-use Rattle.nd_time.specs.Limits.{max_told}
+use Rattle.std.proofs.Common.{◌≡◌}
 use Rattle.nd_timeline.specs.Walks.{IsOn}
 use Rattle.nd_history.specs.History.{shown_at, AreAll}
 use Rattle.nd_history.proofs.history.history.Given as goal
