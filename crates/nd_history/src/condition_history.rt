@@ -1,14 +1,25 @@
-//! Where a condition begins and ceases to hold, by one walk over the kept steps.
-ghost use Rattle.std.specs.Prelude.{◌≡◌, ◌≤◌, length, IfOk, IfErr, OnOk};
-ghost use Rattle.nd_timeline.specs.Walks.{IsOn};
+//! The turns of a condition: the history of whether it holds.
+ghost use Rattle.std.specs.Prelude.{◌≤◌, length, IfOk, IfErr, OnOk};
+ghost use Rattle.nd_breaks.specs.Conditions.{Holds};
+ghost use Rattle.nd_history.specs.History.{ShowsIf};
 ghost use Rattle.nd_history.specs.Least.{HoldsAt, IsLeast};
 ghost use Rattle.nd_history.specs.Turns.{AreListed, first_hit_of, MayTurn, CannotTurn};
 
-use crate::telling::go;
-use crate::{Turns, TurnsFault};
+use crate::history::{Observation, history, walk_at};
+use crate::{PositionList, Turns, TurnsFault};
 use nd_breaks::Condition;
-use nd_timeline::{Timeline, Walk};
-use std::alloc::{AllocError, Allocator};
+use nd_cluster::Cluster;
+use nd_timeline::Timeline;
+use std::alloc::Allocator;
+
+/// A condition is observed as 1 if it holds, and as 0 if it does not.
+impl Observation for Condition {
+    ghost Shows = { λ c s. ShowsIf (Holds s c) };
+
+    fn of<A: Allocator + Copy>(&self, cluster: &Cluster<A>) -> i64 {
+        if self.holds(cluster) { 1 } else { 0 }
+    }
+}
 
 // Checks that the range is one of kept steps.
 fn check<A: Allocator + Copy>(timeline: &Timeline<A>, lo: u64, hi: u64) -> Result<(), TurnsFault>
@@ -22,36 +33,6 @@ fn check<A: Allocator + Copy>(timeline: &Timeline<A>, lo: u64, hi: u64) -> Resul
         return Err(TurnsFault::NoSuchPoint);
     }
     Ok(())
-}
-
-// Moves the walk forward to position `hi` step by step, and lists the turns on the way. It stops after
-// the first turn that is not listed.
-fn follow<A: Allocator + Copy>(
-    alloc: A,
-    timeline: &Timeline<A>,
-    walk: &mut Walk<A>,
-    condition: &Condition,
-    hi: u64,
-) -> Result<Turns<A>, AllocError>
-    requires on { IsOn timeline.now walk.old }
-    requires ahead { walk.old.at ≤ hi }
-    requires within { hi ≤ length timeline.now.kept }
-    ensures { IfOk result (AreListed (HoldsAt timeline.now condition.now) walk.old.at hi) }
-{
-    let mut before = condition.holds(&walk.cluster);
-    let mut turns = Turns::new(alloc, before);
-    for at in walk.at..hi {
-        go(timeline, walk, at + 1)?;
-        let after = condition.holds(&walk.cluster);
-        if after != before {
-            turns.add(at + 1)?;
-            if turns.more {
-                return Ok(turns);
-            }
-        }
-        before = after;
-    }
-    Ok(turns)
 }
 
 /// Lists the turns of the condition above `lo` and up to `hi` in order: the positions at which it holds
@@ -74,7 +55,13 @@ pub fn turns<A: Allocator + Copy>(
     ensures cannot { IfErr result (CannotTurn timeline.now lo hi) }
 {
     check(timeline, lo, hi)?;
-    let mut walk = timeline.walk_near(alloc, lo)?;
-    go(timeline, &mut walk, lo)?;
-    Ok(follow(alloc, timeline, &mut walk, condition, hi)?)
+    let mut walk = walk_at(alloc, timeline, lo)?;
+    let at_lo = condition.holds(&walk.cluster);
+    let told = history(alloc, timeline, &mut walk, condition, hi)?;
+    let positions = PositionList::of(alloc, told.changes.as_slice())?;
+    Ok(Turns {
+        at_lo,
+        positions,
+        more: told.more,
+    })
 }
