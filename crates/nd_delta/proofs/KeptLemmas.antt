@@ -64,14 +64,19 @@ module _ (es : List (Pointstamp × ℤ)) (kept : IsKept es) (m : DeltaValue) (vi
         (whole n within ∙ here, rw (whole n within) within)
 
     -- an entry is put
+    put_count : (n : ℤ) (fs : List (Pointstamp × ℤ)) → IsCount n → fs ≡ put point_cmp p n es → IsKept fs
+    put_count n fs count is = subst IsKept (sym is) (laws.kept_put point_cmp point_total es p (λ _. IsCount) n (λ _ _. count) kept)
+
+    put_so : (n : ℤ) (fs : List (Pointstamp × ℤ)) → fs ≡ put point_cmp p n es → of_entries fs ≡ set m p n
+    unfolding of_entries set
+    put_so n fs is = laws.of_put integers point_total point_exact es m view p n fs is
+
+    -- the same with the integer as the code stores it
     pub put_kept : (n : ℤ) (fs : List (Pointstamp × ℤ)) → unsigned_abs n ≤ max_count → n ≢ pos 0 → fs ≡ put point_cmp p (to_z w64 (of_z w64 n)) es → IsKept fs
-    put_kept n fs within some is =
-        let count : IsCount n = record { some = some; within = within } in
-        subst IsKept (sym (is ∙ ap (λ z. put point_cmp p z es) (whole n within))) (laws.kept_put point_cmp point_total es p (λ _. IsCount) n (λ _ _. count) kept)
+    put_kept n fs within some is = put_count n fs (record { some = some; within = within }) (is ∙ ap (λ z. put point_cmp p z es) (whole n within))
 
     pub put_is : (n : ℤ) (fs : List (Pointstamp × ℤ)) → unsigned_abs n ≤ max_count → fs ≡ put point_cmp p (to_z w64 (of_z w64 n)) es → of_entries fs ≡ set m p n
-    unfolding of_entries set
-    put_is n fs within is = laws.of_put integers point_total point_exact es m view p n fs (is ∙ ap (λ z. put point_cmp p z es) (whole n within))
+    put_is n fs within is = put_so n fs (is ∙ ap (λ z. put point_cmp p z es) (whole n within))
 
     -- an entry is removed
     pub taken_kept : (fs : List (Pointstamp × ℤ)) → fs ≡ without point_cmp p es → IsKept fs
@@ -80,13 +85,6 @@ module _ (es : List (Pointstamp × ℤ)) (kept : IsKept es) (m : DeltaValue) (vi
     pub taken_is : (fs : List (Pointstamp × ℤ)) → fs ≡ without point_cmp p es → of_entries fs ≡ set m p (pos 0)
     unfolding of_entries set
     taken_is fs is = laws.of_without integers point_total point_exact es m view p fs is
-
-    put_so : (n : ℤ) (fs : List (Pointstamp × ℤ)) → fs ≡ put point_cmp p n es → of_entries fs ≡ set m p n
-    unfolding of_entries set
-    put_so n fs is = laws.of_put integers point_total point_exact es m view p n fs is
-
-    put_count : (n : ℤ) (fs : List (Pointstamp × ℤ)) → IsCount n → fs ≡ put point_cmp p n es → IsKept fs
-    put_count n fs count is = subst IsKept (sym is) (laws.kept_put point_cmp point_total es p (λ _. IsCount) n (λ _ _. count) kept)
 
     module _ (n : ℤ) where
       by_edit : (e : Edit ℤ) (fs : List (Pointstamp × ℤ)) → IsMoved n (at m p) e → fs ≡ edited point_cmp p n (Some e) es → IsAdded m p n (Some e) fs

@@ -1,11 +1,12 @@
 //! Changes stored in maps that may grow large.
-ghost use Rattle.std.specs.Prelude.{◌≡◌, ◌≢◌, [], ◌↔◌, ◌<◌, ◌≤◌, ◌^◌, ◌*◌, ◌+ℤ◌, ℤ, pos, unsigned_abs, cond, length, OnOk, OnErr, IfOk, IsTrue, Err, Some, Any};
+ghost use Rattle.std.specs.Prelude.{◌≡◌, ◌≢◌, [], ◌↔◌, ◌<◌, ◌≤◌, ◌^◌, ◌+ℤ◌, ℤ, pos, unsigned_abs, cond, length, OnOk, OnErr, IfOk, IsTrue, Err, Some};
 ghost use Rattle.std.specs.Map.Iter.{ShowsInOrder, deref_pair};
 ghost use Rattle.nd_time.specs.Limits.{max_count};
 ghost use Rattle.nd_map.specs.declared.tree.Edit.TheVariants.{Keep, Put, Remove};
 ghost use Rattle.nd_paths.specs.declared.point.Pointstamp.{Pointstamp as Point};
 ghost use Rattle.nd_delta.specs.Delta.{none, at, set, size, plus, minus, combined, part, has_point, points_of, IsTooLarge, IsWithin, IsPartOf, IsApart, entries as listed};
 
+use crate::change::{combined_at, exceeds_limit, part_of};
 use crate::{Delta, DeltaFault, passes_limit, sum_within};
 use nd_map::{Edit, GrowingMap, Iter};
 use nd_paths::Pointstamp;
@@ -71,6 +72,7 @@ impl<A: Allocator> LargeDelta<A> {
     }
 
     /// Returns an iterator over the entries in the order of listing.
+    #[tactic(auto, using(crate::proofs::KeptLemmas::listed, crate::proofs::KeptLemmas::all_within))]
     pub fn iter(&self) -> Iter<'_, Pointstamp, i64>
         ensures rest { result ≡ listed self.now }
         ensures runs { ShowsInOrder (deref_pair {K = Point} {X = ℤ}) }
@@ -106,6 +108,7 @@ impl<A: Allocator> LargeDelta<A> {
     }
 
     /// Returns the number of entries.
+    #[tactic(auto, using(crate::proofs::KeptLemmas::listed))]
     pub fn len(&self) -> usize
         ensures { result ≡ size self.now }
     {
@@ -121,33 +124,7 @@ impl<A: Allocator> LargeDelta<A> {
     {
         // The entries are within the limit.
         let _ = self.iter();
-        let mut kept = Delta::new(alloc);
-        for point in points {
-            kept.put(point, self.get(point))?;
-        }
-        Ok(kept)
-    }
-
-    // Returns the integer of a pointstamp in the difference of two changes, or in their sum.
-    fn combined_at(&self, other: &Delta<A>, minus: bool, point: &Pointstamp) -> i64
-        ensures value { result ≡ at (combined minus self.now other.now) point.now }
-        ensures fits { unsigned_abs result ≤ 2 * max_count }
-    {
-        let here = self.get(point);
-        let there = other.get(point);
-        if minus { here - there } else { here + there }
-    }
-
-    // Returns whether the difference, or the sum, exceeds the limit at the pointstamp of an entry of `other`.
-    fn any_passes(&self, other: &Delta<A>, minus: bool) -> bool
-        ensures passes { IsTrue result
-            ↔ Any (λ e. max_count < unsigned_abs (at (combined minus self.now other.now) e.0))
-            (listed other.now) }
-        ensures within { IsWithin other.now }
-    {
-        other.entries().iter().any(|entry: &(Pointstamp, i64)| passes_limit(self.combined_at(
-            other, minus, &entry.0,
-        )))
+        part_of(self, alloc, points)
     }
 
     /// Returns whether some entry of the difference, or of the sum, exceeds `LIMIT`.
@@ -157,7 +134,7 @@ impl<A: Allocator> LargeDelta<A> {
     {
         // The entries are within the limit.
         let _ = self.iter();
-        self.any_passes(other, minus)
+        exceeds_limit(self, other, minus)
     }
 
     /// Returns the change without a part of it.
@@ -204,28 +181,7 @@ impl<A: Allocator + Copy> LargeDelta<A> {
             self.remove(point);
             return Ok(());
         }
-        let Ok(()) = self.map.put(point, n) else {
-            return Err(AllocError);
-        };
-        Ok(())
-    }
-
-    // Does what `add` does, by two searches.
-    fn add_apart(&mut self, point: &Pointstamp, n: i64) -> Result<(), DeltaFault>
-        ensures ok { OnOk result (self.new ≡ set self.old point.now (at self.old point.now +ℤ n)) }
-        ensures err { OnErr result (self.new ≡ self.old) }
-        ensures full { (result ≡ Err (DeltaFault.DeltaFull))
-            ↔ (max_count < unsigned_abs (at self.old point.now +ℤ n)) }
-        ensures no_growth { at self.old point.now ≢ pos 0 → result ≢ Err (DeltaFault.Memory) }
-        ensures nothing { n ≡ pos 0 → result ≢ Err (DeltaFault.Memory) }
-        ensures within { unsigned_abs (at self.old point.now) ≤ max_count }
-    {
-        let Some(sum) = sum_within(self.get(point), n) else {
-            return Err(DeltaFault::DeltaFull);
-        };
-        let Ok(()) = self.put(point, sum) else {
-            return Err(DeltaFault::Memory);
-        };
+        self.map.put(point, n)?;
         Ok(())
     }
 
@@ -241,11 +197,13 @@ impl<A: Allocator + Copy> LargeDelta<A> {
     {
         // A new entry is `n` itself, if it can be one.
         if n == 0 || passes_limit(n) {
-            return self.add_apart(point, n);
+            let Some(sum) = sum_within(self.get(point), n) else {
+                return Err(DeltaFault::DeltaFull);
+            };
+            self.put(point, sum)?;
+            return Ok(());
         }
-        let Ok(said) = self.map.put_or_edit(point, n, |held| moved(held, n)) else {
-            return Err(DeltaFault::Memory);
-        };
+        let said = self.map.put_or_edit(point, n, |held| moved(held, n))?;
         if is_kept(said) {
             return Err(DeltaFault::DeltaFull);
         }
@@ -297,14 +255,10 @@ impl<A: Allocator + Copy> LargeDelta<A> {
         if self.is_overfull(other, minus) {
             return Err(DeltaFault::DeltaFull);
         }
-        let Ok(mut made) = self.copy(alloc) else {
-            return Err(DeltaFault::Memory);
-        };
+        let mut made = self.copy(alloc)?;
         for entry in other.entries() {
             let point = &entry.0;
-            let Ok(()) = made.put(point, self.combined_at(other, minus, point)) else {
-                return Err(DeltaFault::Memory);
-            };
+            made.put(point, combined_at(self, other, minus, point))?;
         }
         Ok(made)
     }

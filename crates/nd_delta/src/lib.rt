@@ -2,16 +2,19 @@
 //! A `Delta` stores them in a sorted list, a `LargeDelta` in a map that becomes a tree as it grows.
 #![tactic(auto)]
 
-ghost use Rattle.std.specs.Prelude.{◌≡◌, ◌≢◌, [], ◌↔◌, ◌<◌, ◌≤◌, ◌+ℤ◌, ◌<ℤ◌, ◌*◌, pos, unsigned_abs, length, ◌⊎◌, OnOk, OnErr, IfOk, IfSome, IsSomeAnd, IsNone, IsTrue, Err, Any, Contains};
+ghost use Rattle.std.specs.Prelude.{◌≡◌, ◌≢◌, [], ◌↔◌, ◌<◌, ◌≤◌, ◌+ℤ◌, ◌<ℤ◌, pos, unsigned_abs, length, ◌⊎◌, OnOk, OnErr, IfOk, IfSome, IsSomeAnd, IsNone, IsTrue, Err, Any, Contains};
 ghost use Rattle.nd_time.specs.Limits.{max_count};
 ghost use Rattle.nd_paths.specs.Order.{CouldResultIn, IsStrictlyBefore};
 ghost use Rattle.nd_paths.specs.declared.point.Pointstamp.{Pointstamp};
 ghost use Rattle.nd_delta.specs.Upright.{IsSupported, IsUnsupported, IsUpright};
 ghost use Rattle.nd_delta.specs.Least.{IsLeast};
+ghost use Rattle.nd_delta.specs.declared.DeltaFault.TheVariants.{Memory};
 ghost use Rattle.nd_delta.specs.Delta.{none, at, set, size, plus, minus, part, combined, IsTooLarge, IsWithin, entries as listed};
 
+mod change;
 mod large;
 
+use change::{combined_at, exceeds_limit, part_of};
 pub use large::LargeDelta;
 use nd_map::SortedMap;
 use nd_paths::{Paths, Pointstamp};
@@ -28,6 +31,14 @@ pub enum DeltaFault {
     DeltaFull,
     /// Out of memory.
     Memory,
+}
+
+impl From<AllocError> for DeltaFault {
+    ghost from_gives = { λ _ e. e ≡ Memory };
+
+    fn from(_error: AllocError) -> Self {
+        DeltaFault::Memory
+    }
 }
 
 /// A finite map from pointstamps to integers other than 0, each at most `LIMIT` in absolute value.
@@ -136,6 +147,7 @@ impl<A: Allocator> Delta<A> {
     }
 
     /// Returns the entries in the order of listing.
+    #[tactic(auto, using(crate::proofs::KeptLemmas::listed, crate::proofs::KeptLemmas::all_within))]
     pub fn entries(&self) -> &[(Pointstamp, i64)]
         ensures listed { result.now ≡ listed self.now }
         ensures within { IsWithin self.now }
@@ -162,9 +174,7 @@ impl<A: Allocator> Delta<A> {
             self.map.remove(point);
             return Ok(());
         }
-        let Ok(()) = self.map.put(point, n) else {
-            return Err(AllocError);
-        };
+        self.map.put(point, n)?;
         Ok(())
     }
 
@@ -181,9 +191,7 @@ impl<A: Allocator> Delta<A> {
         let Some(sum) = sum_within(self.get(point), n) else {
             return Err(DeltaFault::DeltaFull);
         };
-        let Ok(()) = self.put(point, sum) else {
-            return Err(DeltaFault::Memory);
-        };
+        self.put(point, sum)?;
         Ok(())
     }
 
@@ -199,38 +207,6 @@ impl<A: Allocator> Delta<A> {
         })
     }
 
-    // Returns the integer of a pointstamp in the difference of two deltas, or in their sum.
-    fn combined_at(&self, other: &Delta<A>, minus: bool, point: &Pointstamp) -> i64
-        ensures value { result ≡ at (combined minus self.now other.now) point.now }
-        ensures fits { unsigned_abs result ≤ 2 * max_count }
-    {
-        let here = self.get(point);
-        let there = other.get(point);
-        if minus { here - there } else { here + there }
-    }
-
-    // Returns whether the difference, or the sum, exceeds the limit at the pointstamp of an entry of `other`.
-    fn any_passes(&self, other: &Delta<A>, minus: bool) -> bool
-        ensures passes { IsTrue result
-            ↔ Any (λ e. max_count < unsigned_abs (at (combined minus self.now other.now) e.0))
-            (listed other.now) }
-        ensures within { IsWithin other.now }
-    {
-        other.entries().iter().any(|entry: &(Pointstamp, i64)| passes_limit(self.combined_at(
-            other, minus, &entry.0,
-        )))
-    }
-
-    // Returns whether some entry of the difference, or of the sum, exceeds `LIMIT`.
-    fn is_overfull(&self, other: &Delta<A>, minus: bool) -> bool
-        ensures passes { IsTrue result ↔ IsTooLarge (combined minus self.now other.now) }
-        ensures within { IsWithin self.now × IsWithin other.now }
-    {
-        // The entries are within the limit.
-        let _ = self.entries();
-        self.any_passes(other, minus)
-    }
-
     // Returns the difference, or the sum, if it fits. It merges the two sorted lists.
     fn combine(&self, alloc: A, other: &Delta<A>, minus: bool) -> Result<Delta<A>, DeltaFault>
         ensures ok { IfOk result (λ d. d ≡ combined minus self.now other.now) }
@@ -238,28 +214,25 @@ impl<A: Allocator> Delta<A> {
             ↔ IsTooLarge (combined minus self.now other.now) }
         ensures within { IsWithin self.now × IsWithin other.now }
     {
-        if self.is_overfull(other, minus) {
+        let mine = self.entries();
+        let others = other.entries();
+        if exceeds_limit(self, other, minus) {
             return Err(DeltaFault::DeltaFull);
         }
         let mut made = Delta::new(alloc);
-        let mine = self.entries();
-        let others = other.entries();
         let mut i = 0;
         let mut j = 0;
         while i < mine.len() || j < others.len() {
-            if comes_first(mine, others, i, j) {
-                let point = &mine[i].0;
-                let Ok(()) = made.put(point, self.combined_at(other, minus, point)) else {
-                    return Err(DeltaFault::Memory);
-                };
+            let point = if comes_first(mine, others, i, j) {
+                let entry = &mine[i];
                 i += 1;
+                &entry.0
             } else {
-                let point = &others[j].0;
-                let Ok(()) = made.put(point, self.combined_at(other, minus, point)) else {
-                    return Err(DeltaFault::Memory);
-                };
+                let entry = &others[j];
                 j += 1;
-            }
+                &entry.0
+            };
+            made.put(point, combined_at(self, other, minus, point))?;
         }
         Ok(made)
     }
@@ -293,11 +266,7 @@ impl<A: Allocator> Delta<A> {
     {
         // The entries are within the limit.
         let _ = self.entries();
-        let mut kept = Delta::new(alloc);
-        for point in points {
-            kept.put(point, self.get(point))?;
-        }
-        Ok(kept)
+        part_of(self, alloc, points)
     }
 
     // Returns whether a pointstamp in `held`, or a negative entry, is strictly before `point`.

@@ -10,6 +10,5 @@ pub mod WorksLemmas
 pub mod Totals
 pub mod WalkLemmas
 pub mod ToldLemmas
-pub mod EntryLemmas
 pub mod TurnsLemmas
 pub mod EffectedLemmas

@@ -8,6 +8,7 @@ pub mod Hands
 pub mod Works
 pub mod Changes
 pub mod Told
+pub mod History
 pub mod ViewChanges
 pub mod Turns
 pub mod Effected

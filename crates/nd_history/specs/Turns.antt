@@ -1,6 +1,6 @@
 -- *Turns*: the positions at which a condition begins or ceases to hold, and what is listed of them (this
 -- project's own rule).
-use Rattle.std.specs.Prelude.{◌≡◌, ◌↔◌, ℕ, ◌-◌, ◌<◌, ◌≤◌, ◌⊎◌, List, [], ◌∷◌, ◌++◌, length, slice_get, Contains, AllPairs, Option, Some, cond, true, IsTrue, MatchBool}
+use Rattle.std.specs.Prelude.{◌≡◌, ◌↔◌, ℕ, ◌-◌, ◌<◌, ◌≤◌, ◌⊎◌, List, length, slice_get, Contains, AllPairs, Option, Some, cond, IsTrue, MatchBool}
 use Rattle.nd_time.specs.Limits.{max_told}
 use Rattle.nd_timeline.specs.Timeline.{TimelineValue}
 use Rattle.nd_history.specs.declared.turned.Turns.{Turns}
@@ -42,12 +42,6 @@ pub record AreListed {A : Type 0} (Hit : ℕ → Type 0) (lo hi : ℕ) (turns : 
 -- the least hit of the range by its turns: its first position if there is a hit, otherwise the first turn
 abbrev pub first_hit_of : {A : Type 0} → ℕ → Turns A → Option ℕ
 first_hit_of lo turns = cond turns.at_lo (Some lo) (slice_get turns.positions 0)
-
--- one more turn is listed, or it is noted that there are more than are listed
-pub record IsAdded {A : Type 0} (old : Turns A) (k : ℕ) (new : Turns A) : Type 0 where
-  pub at_lo : new.at_lo ≡ old.at_lo
-  pub room : length old.positions < max_told → (new.positions ≡ old.positions ++ k ∷ []) × (new.more ≡ old.more)
-  pub full : max_told ≤ length old.positions → (new.positions ≡ old.positions) × (new.more ≡ true)
 
 -- the timeline has this range of kept steps
 pub record MayTurn {A : Type 0} (m : TimelineValue A) (lo hi : ℕ) : Type 0 where

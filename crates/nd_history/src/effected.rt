@@ -2,7 +2,7 @@
 ghost use Rattle.std.specs.Prelude.{◌≡◌, IfErr, IfOk, OnOk};
 ghost use Rattle.nd_history.specs.Effected.{IsLedTo, IsEffect, HasNoEffect, code_of_effect};
 
-use crate::telling::go;
+use crate::history::walk_at;
 use nd_cluster::Effect;
 use nd_protocol::{Refusal, Step};
 use nd_time::Code;
@@ -78,8 +78,7 @@ pub fn effect<A: Allocator + Copy>(
     let Some(record) = timeline.record(before) else {
         return Err(EffectFault::NoSuchPoint);
     };
-    let mut walk = timeline.walk_near(alloc, before)?;
-    go(timeline, &mut walk, before)?;
+    let walk = walk_at(alloc, timeline, before)?;
     let changed = walk.cluster.effect(alloc, record)?;
     let step = step.copy(alloc)?;
     Ok(StepEffect { step, changed })

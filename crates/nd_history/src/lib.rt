@@ -4,27 +4,28 @@
 #![tactic(auto)]
 
 mod board;
+mod condition_history;
 mod effected;
 mod fault;
 mod gate;
 mod hand;
+mod history;
 mod piece;
 mod searching;
 mod snapshot;
 mod table;
 mod team;
-mod telling;
 mod told;
 mod turned;
-mod turning;
+mod view_history;
 mod work;
 
+pub use condition_history::turns;
 pub use effected::{EffectFault, StepEffect, effect};
 pub use fault::{ChangesFault, SearchFault, TurnsFault};
 pub use gate::{Gate, OpenGate};
 pub use searching::{search, search_in};
 pub use snapshot::Snapshot;
-pub use telling::changes;
 pub use told::{Changed, Changes, Told};
 pub use turned::{PositionList, Turns};
-pub use turning::turns;
+pub use view_history::changes;

@@ -1,13 +1,8 @@
 //! Lists of the changes of an entry.
-ghost use Rattle.std.specs.Prelude.{◌≡◌, List, [], ◌∷◌, ◌++◌, OnOk, OnErr};
-ghost use Rattle.nd_history.specs.declared.told.Changed.{Changed};
-ghost use Rattle.nd_history.specs.Told.{IsTold};
+ghost use Rattle.std.specs.Prelude.{◌≡◌, [], ◌∷◌, ◌++◌, OnOk};
 
 use std::alloc::{AllocError, Allocator, Global};
 use std::marker::Model;
-
-/// The maximum number of changes that are listed.
-const MAX_TOLD: usize = 1_000;
 
 /// A position at which an entry differs from the entry at the position before.
 #[derive(Clone, Copy, Drop)]
@@ -39,7 +34,7 @@ impl<A: Allocator> Model for Changes<A> {
 
 impl<A: Allocator> Changes<A> {
     // Returns an empty list.
-    fn new(alloc: A) -> Changes<A>
+    pub(crate) fn new(alloc: A) -> Changes<A>
         ensures { result ≡ [] }
     {
         Changes {
@@ -55,7 +50,7 @@ impl<A: Allocator> Changes<A> {
     }
 
     // Adds a change at the end.
-    fn push(&mut self, changed: Changed) -> Result<(), AllocError>
+    pub(crate) fn push(&mut self, changed: Changed) -> Result<(), AllocError>
         ensures { OnOk result (self.new ≡ self.old ++ changed ∷ []) }
     {
         self.items.push(changed)?;
@@ -70,29 +65,4 @@ pub struct Told<A: Allocator = Global> {
     pub changes: Changes<A>,
     /// Whether there are more.
     pub more: bool,
-}
-
-impl<A: Allocator> Told<A> {
-    /// Returns an empty list without more changes.
-    pub(crate) fn new(alloc: A) -> Told<A>
-        ensures { IsTold [] result }
-    {
-        Told {
-            changes: Changes::new(alloc),
-            more: false,
-        }
-    }
-
-    /// Lists one more change, or sets `more` if the list is full.
-    pub(crate) fn add(&mut self, changed: Changed) -> Result<(), AllocError>
-        ensures { OnOk result ((all : List Changed)
-            → IsTold all self.old → IsTold (all ++ changed ∷ []) self.new) }
-    {
-        if self.changes.as_slice().len() >= MAX_TOLD {
-            self.more = true;
-            return Ok(());
-        }
-        self.changes.push(changed)?;
-        Ok(())
-    }
 }

@@ -1,12 +1,9 @@
 //! What is listed of the positions at which a condition begins or ceases to hold.
-ghost use Rattle.std.specs.Prelude.{◌≡◌, false, [], ◌∷◌, ◌++◌, OnOk};
-ghost use Rattle.nd_history.specs.Turns.{IsAdded};
+ghost use Rattle.std.specs.Prelude.{◌≡◌, map, IfOk};
 
+use crate::Changed;
 use std::alloc::{AllocError, Allocator, Global};
 use std::marker::Model;
-
-/// The maximum number of turns that are listed.
-const MAX_LISTED: usize = 1_000;
 
 /// A list of positions.
 #[derive(Drop)]
@@ -23,13 +20,14 @@ impl<A: Allocator> Model for PositionList<A> {
 }
 
 impl<A: Allocator> PositionList<A> {
-    // Returns an empty list.
-    pub(crate) fn new(alloc: A) -> PositionList<A>
-        ensures { result ≡ [] }
+    // Returns the positions of the changes.
+    pub(crate) fn of(alloc: A, changes: &[Changed]) -> Result<PositionList<A>, AllocError>
+        ensures { IfOk result (λ ks. ks ≡ map (λ c. c.position) changes.now) }
     {
-        PositionList {
-            items: Vec::new(alloc),
-        }
+        let positions = changes.iter().map(|changed| changed.position);
+        Ok(PositionList {
+            items: positions.collect(alloc)?,
+        })
     }
 
     /// Returns the positions.
@@ -37,14 +35,6 @@ impl<A: Allocator> PositionList<A> {
         ensures { result.now ≡ self.now }
     {
         &self.items
-    }
-
-    // Adds a position at the end.
-    pub(crate) fn push(&mut self, position: u64) -> Result<(), AllocError>
-        ensures { OnOk result (self.new ≡ self.old ++ position ∷ []) }
-    {
-        self.items.push(position)?;
-        Ok(())
     }
 }
 
@@ -58,31 +48,4 @@ pub struct Turns<A: Allocator = Global> {
     pub positions: PositionList<A>,
     /// Whether there are more.
     pub more: bool,
-}
-
-impl<A: Allocator> Turns<A> {
-    // Returns an empty list without more turns.
-    pub(crate) fn new(alloc: A, at_lo: bool) -> Turns<A>
-        ensures at_lo { result.at_lo ≡ at_lo }
-        ensures positions { result.positions ≡ [] }
-        ensures more { result.more ≡ false }
-    {
-        Turns {
-            at_lo,
-            positions: PositionList::new(alloc),
-            more: false,
-        }
-    }
-
-    // Lists one more turn, or sets `more` if the list is full.
-    pub(crate) fn add(&mut self, position: u64) -> Result<(), AllocError>
-        ensures { OnOk result (IsAdded self.old position self.new) }
-    {
-        if self.positions.as_slice().len() >= MAX_LISTED {
-            self.more = true;
-            return Ok(());
-        }
-        self.positions.push(position)?;
-        Ok(())
-    }
 }

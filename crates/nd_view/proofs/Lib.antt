@@ -5,7 +5,6 @@ mod Fors
 mod Frontiers
 mod Left
 mod LinksLemmas
-mod Moved
 mod Moves
 mod Nearest
 mod Parts

@@ -87,6 +87,22 @@ size_within (suc k) f m e h =
 pub count_small : (P : Pointstamp → Type 0) (m : DeltaValue) (n : ℕ) → ((q : Pointstamp) → P q → at m q ≢ pos 0) → IsCount P m n → n ≤ size m
 count_small P m n some counted = size_within n counted.0 m counted.2 (λ q q_some. some q (counted.1.only q q_some))
 
+-- a point that counts, and two of them
+module _ (P : Pointstamp → Type 0) (m : DeltaValue) (n : ℕ) (some : (q : Pointstamp) → P q → at m q ≢ pos 0) (counted : IsCount P m n) where
+  taken : (q : Pointstamp) → P q → at counted.0 q ≢ pos 0
+  taken q p z = some q p (sym (counted.1.all q p) ∙ z)
+
+  pub count_one : (q : Pointstamp) → P q → 1 ≤ n
+  count_one q p = let gone = size_gone counted.0 q (taken q p) in omega (arith, gone, counted.2)
+
+  pub count_two : (q r : Pointstamp) → P q → P r → r ≢ q → 2 ≤ n
+  count_two q r p h other =
+      let f = counted.0 in
+      let away : is_point r q ≡ false = elim (alike r q) [ inl same ↦ absurd (other same) | inr apart_from ↦ apart_from ] in
+      let gone = size_gone f q (taken q p) in
+      let more = size_gone (set f q (pos 0)) r (λ z. taken r h (sym (at-elsewhere f q (pos 0) r away) ∙ z)) in
+      omega (arith, gone, more, counted.2)
+
 module _ (m n : DeltaValue) (x : Pointstamp) (v : ℤ) (is : n ≡ set m x v) where
   here : at n x ≡ v
   here = ap (λ c. at c x) is ∙ at-set_same m x v

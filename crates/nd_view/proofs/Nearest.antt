@@ -24,7 +24,7 @@ count_nothing g m t = (
 )
 
 -- what could result in s could result in t, at the location of s with the same counters, if its epoch is not later
-beside : (g : Dataflow) (x s t : Pointstamp) → s.location ≡ t.location → s.time.counters ≡ t.time.counters → x.time.epoch ≤ t.time.epoch → CouldResultIn g x s → CouldResultIn g x t
+pub beside : (g : Dataflow) (x s t : Pointstamp) → s.location ≡ t.location → s.time.counters ≡ t.time.counters → x.time.epoch ≤ t.time.epoch → CouldResultIn g x s → CouldResultIn g x t
 beside g x s t place counters epoch h = record {
   fits_s = h.fits_s;
   fits_t = record { depth = subst (λ cs. HasDepth g t.location (length cs)) counters (subst (λ l. HasDepth g l (length s.time.counters)) place h.fits_t.depth) };

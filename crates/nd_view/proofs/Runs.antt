@@ -1,8 +1,8 @@
 -- Neighbouring entries at one location: their epochs increase.
-use Rattle.std.proofs.Common.{◌≡◌, ◌<◌, ◌≤◌, ◌+◌, ◌⊎◌, inl, inr, ℕ, zero, suc, List, length, get_or, refl, sym, ap, subst, ◌∙◌, arith, Ordering, Less, Equal, Greater}
+use Rattle.std.proofs.Common.{◌≡◌, ◌≢◌, ◌<◌, ◌≤◌, ◌+◌, ◌⊎◌, inl, inr, ℕ, zero, suc, List, length, get_or, refl, sym, ap, subst, ◌∙◌, arith, Ordering, Less, Equal, Greater}
 use Rattle.std.specs.Ordering.{nat_cmp, ordering_then}
 use Rattle.std.proofs.lemmas.Bool.{cases_lt}
-use Rattle.std.proofs.lemmas.Cmp.{ranked}
+use Rattle.std.proofs.lemmas.Cmp.{ranked, tied_itself}
 use Rattle.std.proofs.lemmas.List.{get_or_default}
 use Rattle.nd_map.specs.Entries.{rises}
 use Rattle.nd_map.specs.Listed.{IsListed}
@@ -41,6 +41,15 @@ module _ {V : Type 0} (es : List (Pointstamp × V)) (listed : IsListed point_cmp
         let same : i ≡ j = omega (arith, le, at_least) in
         (omega (arith, ap (λ k. (get_or es k d).0.location) same), λ _. omega (arith, ap (λ k. (get_or es k d).0.time.epoch) same))
   ]
+
+  -- two entries have two points
+  pub two_points : (i j : ℕ) (x y : Pointstamp × V) → i < j → j < length es → x ≡ get_or es i x → y ≡ get_or es j y → x.0 ≢ y.0
+  two_points i j x y before lt is at same =
+      let left : (get_or es i x).0 ≡ y.0 = ap (λ e. e.0) (sym is) ∙ same in
+      let right : (get_or es j x).0 ≡ y.0 = ap (λ e. e.0) (sym (at ∙ get_or_default es j y x lt)) in
+      let rise : point_cmp (get_or es i x).0 (get_or es j x).0 ≡ Less = rises point_cmp point_total es listed i j x before lt in
+      let tied : point_cmp (get_or es i x).0 (get_or es j x).0 ≡ Equal = (λ k. point_cmp (left k) (right k)) ∙ tied_itself point_total y.0 in
+      absurd (cc (rise, tied))
 
   module _ (run : IsRun es 0 (length es)) where
     -- two entries of a run

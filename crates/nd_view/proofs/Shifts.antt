@@ -1,5 +1,5 @@
 -- Precursor counts that are set right entry by entry: moved by one, or counted.
-use Rattle.std.proofs.Common.{◌≡◌, ◌<◌, ◌≤◌, ◌+◌, ℕ, Bool, true, false, cond, List, length, get_or, Option, Some, None, refl, sym, ap, subst, ◌∙◌, inl, inr, arith}
+use Rattle.std.proofs.Common.{◌≡◌, ◌≢◌, ◌<◌, ◌≤◌, ◌+◌, ◌-◌, ℕ, Bool, true, false, cond, List, length, get_or, Option, Some, None, refl, sym, ap, subst, ◌∙◌, inl, inr, arith}
 use Rattle.std.specs.FinMap.{find, put}
 use Rattle.std.specs.FinMap.Entries.{length-put, length_without}
 use Rattle.std.specs.Option.{is_some}
@@ -14,7 +14,7 @@ use Rattle.nd_view.specs.View.{IsPrecursor}
 use Rattle.nd_view.specs.Kept.{IsKeptAt, IsMovable, IsReady, moved}
 use Rattle.nd_view.proofs.Early.{IsEarly, IsNext, later, last, split, same_length, key_at, next_key, among_found, found_among, entry_found}
 use Rattle.nd_view.proofs.Fors.{signed}
-use Rattle.nd_view.proofs.Moves.{alike, apart, found_put, found_other, count_small}
+use Rattle.nd_view.proofs.Moves.{alike, apart, found_put, found_other, count_one, count_small, count_two}
 use Rattle.nd_map.specs.Cases.{not_zero}
 
 -- a put adds at most one entry
@@ -96,6 +96,13 @@ module _ (g : Dataflow) (m : DeltaValue) (R : Pointstamp → Option ℕ → Type
           ];
         }
 
+  -- what is stored for the key of a later entry
+  pub waiting_on : (i k : ℕ) (es : List (Pointstamp × ℕ)) → IsMovedUpTo g m R ks i es → (e : Pointstamp × ℕ) → i ≤ k → k < length es → e ≡ get_or es k e → R e.0 (Some e.1)
+  waiting_on i k es h e le lt is =
+      let next = next_key es ks h.keys h.listed k e lt is in
+      subst (R e.0) (entry_found es k e h.listed lt is)
+      (h.rest e.0 (λ early. next.fresh (record { index = early.index; early = omega (arith, early.early, le); in_range = early.in_range; is = early.is })))
+
   -- after the last entry
   pub moved_all : ((q : Pointstamp) → R q None → IsKeptAt g m q None) → (i : ℕ) (es : List (Pointstamp × ℕ)) → length es ≤ i → IsMovedUpTo g m R ks i es → (q : Pointstamp) → IsKeptAt g m q (find point_cmp q es)
   moved_all absent i es past h q = by (find point_cmp q es) refl
@@ -139,3 +146,11 @@ module _ (g : Dataflow) (m : DeltaValue) (x : Pointstamp) (up : Bool) where
       by : (b : Bool) → IsMovable g m q b (Some n) → IsKeptAt g m q (Some (moved b n))
       by true k = k
       by false k = k.1
+
+  -- the number neither is nor becomes 0, if something else than x is a precursor
+  pub busy : (q : Pointstamp) (n : ℕ) → IsMovable g m q up (Some n) → (up ≡ true → IsPrecursor g m q x) → (y : Pointstamp) → IsPrecursor g m q y → y ≢ x → (n ≢ 0) × (moved up n ≢ 0)
+  busy q n h first y p other = by up h first
+    where
+      by : (b : Bool) → IsMovable g m q b (Some n) → (b ≡ true → IsPrecursor g m q x) → (n ≢ 0) × (moved b n ≢ 0)
+      by true k x_is = let two = count_two (IsPrecursor g m q) m (n + 1) (λ y p. not_zero _ p.positive) k.1 x y (x_is refl) p other in (λ z. omega (arith, two, z), λ z. omega (arith, two, z))
+      by false k x_is = let one = count_one (IsPrecursor g m q) m (n - 1) (λ y p. not_zero _ p.positive) k.1.1 y p in (λ z. omega (arith, one, z), λ z. omega (arith, one, z))

@@ -39,7 +39,7 @@ module _ (rows : List Row) (listed : IsListed point_cmp (joined rows)) (r k : �
   pub row_positive : (m : DeltaValue) → ArePositive m (joined rows) → pos 0 <ℤ at m e.0
   row_positive m positive = subst (IsHeldAt m e.0) row_found (positive e.0)
 
-found_entry : (es : Row) (k : ℕ) → k < length es → (e : Pointstamp × ℕ) × (e ≡ get_or es k e)
+pub found_entry : (es : Row) (k : ℕ) → k < length es → (e : Pointstamp × ℕ) × (e ≡ get_or es k e)
 found_entry es k lt = let d = an_entry es k lt in (get_or es k d, get_or_default es k d (get_or es k d) lt)
 
 -- ---- n counts the known precursors of t, whose epochs are below the given one, and those among the first i entries

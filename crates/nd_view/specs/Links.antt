@@ -14,12 +14,6 @@ IsCut g first second = (s t : Pointstamp) → s.location ≡ first.location → 
 abbrev pub IsEpochal : Dataflow → ℕ → ℕ → Type 0
 IsEpochal g from to = (s t : Pointstamp) → s.location ≡ from → t.location ≡ to → s.time.counters ≡ [] → t.time.counters ≡ [] → s.time.epoch ≤ t.time.epoch → CouldResultIn g s t
 
--- t has a greater epoch than s, s has no counters, and epochs alone decide between their locations
-pub record IsLater (g : Dataflow) (s t : Pointstamp) : Type 0 where
-  pub epochal : IsEpochal g s.location t.location
-  pub outside : s.time.counters ≡ []
-  pub later : s.time.epoch < t.time.epoch
-
 -- the entries from `first` up to `end`, excluded, are at one location
 abbrev pub IsRun : {V : Type 0} → List (Pointstamp × V) → ℕ → ℕ → Type 0
 IsRun es first end = (k : ℕ) (d : Pointstamp × _) → first ≤ k → k < end → (get_or es k d).0.location ≡ (get_or es first d).0.location
@@ -30,3 +24,12 @@ AreSmaller es first end epoch = (k : ℕ) (d : Pointstamp × _) → first ≤ k 
 
 abbrev pub AreNotSmaller : {V : Type 0} → List (Pointstamp × V) → ℕ → ℕ → ℕ → Type 0
 AreNotSmaller es first end epoch = (k : ℕ) (d : Pointstamp × _) → first ≤ k → k < end → epoch ≤ (get_or es k d).0.time.epoch
+
+-- an entry before `end` has a greater epoch than the given one, and no counters
+pub record HasLater (es : List (Pointstamp × ℕ)) (end epoch : ℕ) : Type 0 where
+  pub index : ℕ
+  pub entry : Pointstamp × ℕ
+  pub early : index < end
+  pub is : entry ≡ get_or es index entry
+  pub outside : entry.0.time.counters ≡ []
+  pub later : epoch < entry.0.time.epoch

@@ -1,12 +1,11 @@
 -- Numbers of pointstamps in rows: one list for each location.
-use Rattle.std.specs.Prelude.{◌≡◌, ◌≤◌, ◌<◌, ◌+◌, ℕ, zero, suc, Bool, List, [], ◌∷◌, flat_map, length, map}
+use Rattle.std.specs.Prelude.{◌≡◌, ◌<◌, ℕ, zero, suc, List, [], ◌∷◌, flat_map, map}
 use Rattle.std.proofs.Common.{get_or}
 use Rattle.std.specs.FinMap.{put}
 use Rattle.nd_map.specs.Counts.{keys_of}
 use Rattle.nd_map.specs.Listed.{IsListed}
 use Rattle.nd_paths.specs.Point.{point_cmp}
 use Rattle.nd_paths.specs.declared.point.Pointstamp.{Pointstamp}
-use Rattle.nd_view.specs.Kept.{moved}
 use Rattle.nd_view.specs.declared.rows.Row.{Row as Placed}
 
 abbrev pub Row : Type 0
@@ -28,28 +27,6 @@ points_by_row rows = map (λ es. keys_of es) rows
 abbrev pub IsPutIn : ℕ → ℕ → ℕ → List Row → List Row → Type 0
 IsPutIn r k n old new =
     (d : Pointstamp × ℕ) → joined new ≡ put point_cmp (get_or (row_of old r) k d).0 n (joined old)
-
--- the number of entry k of row r, at least 2, is moved by one; its point has no counters
-pub record IsMovedAt (r : ℕ) (up : Bool) (k : ℕ) (old new : List Row) : Type 0 where
-  pub entry : k < length (row_of old r)
-  pub point : Pointstamp
-  pub number : ℕ
-  pub is : (point, number) ≡ get_or (row_of old r) k (point, number)
-  pub some : 2 ≤ number
-  pub outside : point.time.counters ≡ []
-  pub put : IsPutIn r k (moved up number) old new
-  pub points : points_by_row new ≡ points_by_row old
-  pub was_listed : IsListed point_cmp (joined old)
-  pub listed : IsListed point_cmp (joined new)
-
--- so many entries of row r, from the first on, are moved one after the other
-abbrev pub AreMoved : ℕ → Bool → ℕ → ℕ → List Row → List Row → Type 0
-AreMoved r up first zero old new = new ≡ old
-AreMoved r up first (suc n) old new = (mid : List Row) × AreMoved r up first n old mid × IsMovedAt r up (first + n) mid new
-
--- the entries of row r from the first up to `end`, excluded, are moved
-abbrev pub AreMovedUpTo : ℕ → Bool → ℕ → ℕ → List Row → List Row → Type 0
-AreMovedUpTo r up first end old new = (n : ℕ) × (end ≡ first + n) × AreMoved r up first n old new
 
 -- ---- rows with their locations
 -- each entry is at the location

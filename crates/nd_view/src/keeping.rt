@@ -1,18 +1,16 @@
 //! Precursor counts: counted again, or adjusted when a pointstamp became positive or ceased to be.
 
-ghost use Rattle.std.specs.Prelude.{◌≡◌, ◌↔◌, ◌≤◌, ◌+◌, ◌<◌, ◌^◌, Contains, IsTrue, IfOk, IfSome};
+ghost use Rattle.std.specs.Prelude.{◌≡◌, ◌↔◌, ◌≤◌, ◌+◌, ◌<◌, ◌<ℤ◌, ◌^◌, pos, Contains, IsTrue, IfOk, IfSome};
 ghost use Rattle.nd_map.specs.Listed.{IsListed};
 ghost use Rattle.nd_paths.specs.Point.{point_cmp};
+ghost use Rattle.nd_delta.specs.Delta.{at};
 ghost use Rattle.nd_view.specs.View.{IsPrecursor, IsCount};
 ghost use Rattle.nd_view.specs.Counting.{AreCounted, AreEarlier, ArePositive, AreReady};
-ghost use Rattle.nd_view.specs.Kept.{AreKept, IsNear, IsFor, kept_of};
+ghost use Rattle.nd_view.specs.Kept.{AreKept, IsNear, IsFor, kept_of, moved};
 ghost use Rattle.nd_view.specs.Rows.{joined};
 
-use crate::links::{
-    epoch_from, is_after, is_epochal, is_outside, is_strictly_before, later_from, leads,
-};
+use crate::links::{epoch_from, is_epochal, is_outside, is_strictly_before, later_from, leads};
 use crate::precursor_counts::PrecursorCounts;
-use crate::rows::moved_by_one;
 use nd_delta::LargeDelta;
 use nd_paths::{Paths, Pointstamp};
 use std::alloc::{AllocError, Allocator};
@@ -143,6 +141,15 @@ pub fn count_before<A: Allocator + Copy, B: Allocator>(
     count_from(counts, positive, paths, point, &known)
 }
 
+// Returns one more or one less.
+fn moved_by_one(n: u64, up: bool) -> u64
+    requires room { IsTrue up → n + 1 < 2 ^ 64 }
+    requires some { (IsTrue up → ⊥) → 1 ≤ n }
+    ensures { result ≡ moved up n }
+{
+    if up { n + 1 } else { n - 1 }
+}
+
 /// Adjusts the precursor counts of the positive pointstamps after one that became positive or ceased to be.
 /// It takes no memory.
 ///
@@ -155,7 +162,8 @@ pub fn shift<A: Allocator + Copy, B: Allocator>(
     point: &Pointstamp,
     up: bool,
 )
-    requires { AreReady paths.now counts.now point.now up (joined precursor_counts.old) }
+    requires ready { AreReady paths.now counts.now point.now up (joined precursor_counts.old) }
+    requires up { IsTrue up → pos 0 <ℤ at counts.now point.now }
     ensures listed { IsListed point_cmp (joined precursor_counts.new) }
     ensures kept { AreCounted paths.now counts.now (joined precursor_counts.new) }
 {
@@ -168,16 +176,19 @@ pub fn shift<A: Allocator + Copy, B: Allocator>(
             let is_epochal = is_epochal(paths, point, &row[end - 1].0);
             let start = epoch_from(row, point.time.epoch());
             let later = later_from(row, start, is_epochal, point.time.epoch());
-            let mut k = start;
-            while k < end {
+            for k in start..later {
                 let entry = &precursor_counts.row(r)[k];
-                if is_after(paths, is_epochal, k >= later, point, &entry.0) {
+                if is_strictly_before(paths, is_epochal, point, &entry.0) {
                     let n = moved_by_one(entry.1, up);
                     precursor_counts.put_at(r, k, n);
                 }
-                k += 1;
-                if k >= later {
-                    k = precursor_counts.move_from(r, k, up);
+            }
+            // An entry before these is later, too, so no number was 0 or is.
+            for k in later..end {
+                let entry = &precursor_counts.row(r)[k];
+                if is_outside(&entry.0) {
+                    let n = moved_by_one(entry.1, up);
+                    precursor_counts.put_off_frontier(r, k, n);
                 }
             }
         }

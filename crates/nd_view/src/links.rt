@@ -4,7 +4,7 @@ ghost use Rattle.std.specs.Prelude.{◌≡◌, ◌≢◌, ◌↔◌, ◌≤◌, 
 ghost use Rattle.nd_map.specs.Listed.{IsListed};
 ghost use Rattle.nd_paths.specs.Order.{IsStrictlyBefore};
 ghost use Rattle.nd_paths.specs.Point.{point_cmp};
-ghost use Rattle.nd_view.specs.Links.{IsCut, IsEpochal, IsLater, IsRun, AreSmaller, AreNotSmaller};
+ghost use Rattle.nd_view.specs.Links.{HasLater, IsCut, IsEpochal, IsRun, AreSmaller, AreNotSmaller};
 
 use nd_paths::{Paths, Pointstamp};
 use std::alloc::Allocator;
@@ -68,27 +68,6 @@ pub fn is_strictly_before<B: Allocator>(
     paths.strictly_before(first, second)
 }
 
-/// Returns whether the second pointstamp is strictly after the first. If `is_later`, only the second's
-/// counters are looked at.
-#[inline(always)]
-pub fn is_after<B: Allocator>(
-    paths: &Paths<B>,
-    is_epochal: bool,
-    is_later: bool,
-    first: &Pointstamp,
-    second: &Pointstamp,
-) -> bool
-    requires epochal { IsTrue is_epochal
-        → IsEpochal paths.now first.now.location second.now.location }
-    requires later { IsTrue is_later → IsLater paths.now first.now second.now }
-    ensures { IsTrue result ↔ IsStrictlyBefore paths.now first.now second.now }
-{
-    if is_later && is_outside(second) {
-        return true;
-    }
-    is_strictly_before(paths, is_epochal, first, second)
-}
-
 /// Returns the index of the first entry of a row whose epoch is not less than `epoch`, in time logarithmic
 /// in the number of entries.
 #[inline(always)]
@@ -112,21 +91,26 @@ pub fn epoch_from<V>(row: &[(Pointstamp, V)], epoch: u32) -> usize
     low
 }
 
-/// Returns the index of the first entry of a row from `start` on whose epoch is greater than `epoch`. If there is
-/// none, or `is_epochal` is false, it returns the number of entries.
+/// Returns the index after the first entry of a row from `start` on with a greater epoch than `epoch` and no
+/// counters. If there is none, or `is_epochal` is false, it returns the number of entries.
 #[inline(always)]
-pub fn later_from<V>(row: &[(Pointstamp, V)], start: usize, is_epochal: bool, epoch: u32) -> usize
+pub fn later_from(row: &[(Pointstamp, u64)], start: usize, is_epochal: bool, epoch: u32) -> usize
     requires listed { IsListed point_cmp row.now }
     requires run { IsRun row.now 0 (length row.now) }
+    requires start { start ≤ length row.now }
+    ensures from { start ≤ result }
+    ensures upto { result ≤ length row.now }
     ensures epochal { result < length row.now → IsTrue is_epochal }
     ensures later { AreNotSmaller row.now result (length row.now) (epoch + 1) }
+    ensures one { result < length row.now → HasLater row.now result epoch }
 {
     if !is_epochal {
         return row.len();
     }
     for k in start..row.len() {
-        if row[k].0.time.epoch() > epoch {
-            return k;
+        let first = &row[k].0;
+        if first.time.epoch() > epoch && is_outside(first) {
+            return k + 1;
         }
     }
     row.len()

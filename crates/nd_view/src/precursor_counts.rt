@@ -1,13 +1,15 @@
 //! The precursor counts of pointstamps, and the list of the pointstamps whose count is 0, changed together.
 
-ghost use Rattle.std.specs.Prelude.{◌≡◌, ◌≢◌, [], ◌↔◌, ◌≤◌, ◌<◌, Contains, IfOk, IfSome, IsTrue, None, OnErr, OnOk, Some, length, vec_capacity};
+ghost use Rattle.std.specs.Prelude.{◌≡◌, ◌≢◌, [], ◌↔◌, ◌≤◌, ◌<◌, ℕ, Contains, IfOk, IfSome, IsTrue, None, OnErr, OnOk, Some, length, vec_capacity};
+ghost use Rattle.std.proofs.Common.{get_or};
 ghost use Rattle.std.specs.FinMap.{find, put};
 ghost use Rattle.nd_map.specs.Listed.{IsListed, without};
 ghost use Rattle.nd_paths.specs.Point.{point_cmp};
+ghost use Rattle.nd_paths.specs.declared.point.Pointstamp.{Pointstamp};
 ghost use Rattle.nd_view.specs.Counting.{AreSameBut};
 ghost use Rattle.nd_view.specs.Kept.{IsFrontierBut, IsFrontierList};
 ghost use Rattle.nd_view.specs.Links.{IsRun};
-ghost use Rattle.nd_view.specs.Rows.{AreMovedUpTo, IsPutIn, joined, points_by_row, row_of};
+ghost use Rattle.nd_view.specs.Rows.{IsPutIn, joined, points_by_row, row_of};
 
 use crate::rows::Rows;
 use nd_paths::Pointstamp;
@@ -214,18 +216,20 @@ impl<A: Allocator + Copy> PrecursorCounts<A> {
         }
     }
 
-    /// Moves the numbers of the entries of a row by one, up or down, from `first` on, up to an entry that has
-    /// counters or whose number is 0 or 1. Returns the index of that entry, or the number of entries. It takes
-    /// no memory.
+    /// Sets the number of an entry of a row, which was not 0 and is not. It takes no memory.
     #[inline(always)]
-    pub fn move_from(&mut self, r: usize, first: usize, up: bool) -> usize
+    pub fn put_off_frontier(&mut self, r: usize, k: usize, n: u64)
         requires row { r < length self.old }
-        requires entry { first ≤ length (row_of self.old r) }
-        ensures moved { AreMovedUpTo r up first result self.old self.new }
-        ensures within { result ≤ length (row_of self.old r) }
+        requires entry { k < length (row_of self.old r) }
+        requires was { (d : Pointstamp × ℕ) → (get_or (row_of self.old r) k d).1 ≢ 0 }
+        requires is { n ≢ 0 }
+        ensures value { IsPutIn r k n self.old self.new }
+        ensures points { points_by_row self.new ≡ points_by_row self.old }
+        ensures listed { IsListed point_cmp (joined self.new) }
+        ensures was_listed { IsListed point_cmp (joined self.old) }
     {
-        // The list stays as it is, since no number was 0 or is.
-        self.counts.move_from(r, first, up)
+        // The list of the pointstamps with number 0 stays as it is.
+        self.counts.put_at(r, k, n);
     }
 
     /// Removes a pointstamp and its number, if it has one. It takes no memory.

@@ -1,15 +1,13 @@
 //! Numbers of pointstamps, in one sorted list for each location.
 
-ghost use Rattle.std.specs.Prelude.{◌≡◌, [], ◌≤◌, ◌<◌, ◌+◌, ◌^◌, Contains, IfErr, IfOk, IsTrue, OnErr, OnOk, length};
+ghost use Rattle.std.specs.Prelude.{◌≡◌, [], ◌≤◌, ◌<◌, Contains, IfErr, IfOk, OnErr, OnOk, length};
 ghost use Rattle.std.specs.Ordering.{nat_cmp};
 ghost use Rattle.std.specs.FinMap.{find, put};
 ghost use Rattle.nd_map.specs.Listed.{IsListed, without};
 ghost use Rattle.nd_paths.specs.Point.{point_cmp};
 ghost use Rattle.nd_view.specs.Links.{IsRun};
-ghost use Rattle.nd_view.specs.Kept.{moved};
-ghost use Rattle.nd_view.specs.Rows.{AreMovedUpTo, AreRows, IsGapFor, IsPutIn, IsRowOf, all_of, joined, points_by_row, row_of};
+ghost use Rattle.nd_view.specs.Rows.{AreRows, IsGapFor, IsPutIn, IsRowOf, all_of, joined, points_by_row, row_of};
 
-use crate::links::is_outside;
 use nd_map::SortedMap;
 use nd_paths::Pointstamp;
 use std::alloc::{AllocError, Allocator, Global};
@@ -84,15 +82,6 @@ fn row_for<A: Allocator + Copy>(
             Ok(r)
         }
     }
-}
-
-/// Returns one more or one less.
-pub fn moved_by_one(n: u64, up: bool) -> u64
-    requires room { IsTrue up → n + 1 < 2 ^ 64 }
-    requires some { (IsTrue up → ⊥) → 1 ≤ n }
-    ensures { result ≡ moved up n }
-{
-    if up { n + 1 } else { n - 1 }
 }
 
 // Returns a copy of the rows.
@@ -186,29 +175,6 @@ impl<A: Allocator + Copy> Rows<A> {
         ensures was_listed { IsListed point_cmp (joined self.old) }
     {
         self.rows[r].numbers.put_at(k, n);
-    }
-
-    /// Moves the numbers of the entries of a row by one, up or down, from `first` on, up to an entry that has
-    /// counters or whose number is 0 or 1. Returns the index of that entry, or the number of entries. It takes
-    /// no memory.
-    #[inline(always)]
-    pub fn move_from(&mut self, r: usize, first: usize, up: bool) -> usize
-        requires row { r < length self.old }
-        requires entry { first ≤ length (row_of self.old r) }
-        ensures moved { AreMovedUpTo r up first result self.old self.new }
-        ensures within { result ≤ length (row_of self.old r) }
-    {
-        let end = self.row(r).len();
-        for k in first..end {
-            let entry = &self.row(r)[k];
-            let number = entry.1;
-            if number < 2 || number == u64::MAX || !is_outside(&entry.0) {
-                return k;
-            }
-            let n = moved_by_one(number, up);
-            self.put_at(r, k, n);
-        }
-        end
     }
 
     /// Removes a pointstamp and its number, if it has one. It takes no memory.

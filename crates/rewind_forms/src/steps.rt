@@ -210,7 +210,7 @@ pub fn step_of(
     }
 }
 
-/// Returns the step that the value asks for in a script of the last version, for the graph, or the first of these errors that
+/// Returns the step that the value asks for in a script of version 6 or later, for the graph, or the first of these errors that
 /// applies: `BadShape` if it is not a step, `UnknownName`, `BadTime`.
 ///
 /// Returns `Memory` only if the allocation of a list of the step failed.

@@ -1,9 +1,10 @@
-use Rattle.std.proofs.Common.{◌≡◌, sym, ap, subst, ◌∙◌, w64, true, arith}
+use Rattle.std.proofs.Common.{◌≡◌, pos, sym, ap, subst, ◌∙◌, w64, true, arith}
+use Rattle.std.specs.Prelude.{◌<ℤ◌}
 use Rattle.std.proofs.lemmas.Int.{to_z-of_z}
 use Rattle.std.specs.FinMap.{find, put}
 use Rattle.nd_map.specs.Listed.{without}
 use Rattle.nd_paths.specs.Point.{point_cmp}
-use Rattle.nd_delta.specs.Delta.{set}
+use Rattle.nd_delta.specs.Delta.{at, set, at-set_same}
 use Rattle.nd_view.specs.Kept.{IsFor, IsReady, kept_of}
 use Rattle.nd_view.specs.Rows.{joined}
 use Rattle.nd_view.proofs.Anew.{few_counts}
@@ -24,8 +25,8 @@ put-requires-clause-fresh g c =
     let v = c.args.self.now in
     ap (λ k. find point_cmp x k.counts) c.self.view_is ∙ kept_none d v.map x (find point_cmp x v.counts) (c.requires.paths.each x) c.requires.was
 
-pub shift-requires : goal.shift-requires
-shift-requires g c = λ q.
+pub shift-requires-clause-ready : goal.shift-requires-clause-ready
+shift-requires-clause-ready g c = λ q.
     let d = c.args.paths.now in
     let x = c.args.point.now in
     let v = c.args.self.now in
@@ -33,6 +34,13 @@ shift-requires g c = λ q.
     let set_is : c.put-2.new.self ≡ set v.map x c.args.n = rw (ap (λ k. k.map) c.self.view_is, to_z-of_z w64 c.args.n c.ranges.n) at c.in-Ok.ensures.ok in
     subst (λ es. IsReady d c.put-2.new.self x true q (find point_cmp q es)) (sym put_is)
     (ready_up v.map c.put-2.new.self x c.args.n set_is d c.count_before-count.result v.counts c.requires.was c.requires.is c.count_before-count.ensures c.requires.paths.each q)
+
+pub shift-requires-clause-up : goal.shift-requires-clause-up
+shift-requires-clause-up g c = λ _.
+    let x = c.args.point.now in
+    let m = c.args.self.now.map in
+    let set_is : c.put-2.new.self ≡ set m x c.args.n = rw (ap (λ k. k.map) c.self.view_is, to_z-of_z w64 c.args.n c.ranges.n) at c.in-Ok.ensures.ok in
+    subst (λ z. pos 0 <ℤ z) (sym (ap (λ y. at y x) set_is ∙ at-set_same m x c.args.n)) c.requires.is
 
 -- what was put is removed
 out : (g : Over) (c : goal.After-remove g) → joined c.remove.new.self ≡ c.args.self.now.counts

@@ -9,8 +9,8 @@ use Rattle.nd_view.specs.Rows.{joined}
 use Rattle.nd_view.proofs.Moves.{ready_down}
 use Rattle.nd_view.proofs.View.go.Goals as goal
 
-pub shift-requires : goal.shift-requires
-shift-requires g c = λ q.
+pub shift-requires-clause-ready : goal.shift-requires-clause-ready
+shift-requires-clause-ready g c = λ q.
     let d = c.args.paths.now in
     let x = c.args.point.now in
     let v = c.args.self.now in

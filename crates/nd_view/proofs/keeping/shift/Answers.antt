@@ -1,23 +1,21 @@
-use Rattle.std.proofs.Common.{List, ◌≡◌, ◌≤◌, ◌<◌, ◌+◌, ◌-◌, ℕ, length, get_or, Some, refl, ap, subst, sym, ◌∙◌, arith, true≢false}
+use Rattle.std.proofs.Common.{List, ◌≡◌, ◌≢◌, ◌≤◌, ◌<◌, ◌+◌, ◌-◌, ℕ, length, get_or, Some, [], refl, ap, subst, sym, ◌∙◌, arith, true≢false}
 use Rattle.std.specs.Prelude.{IsTrue}
-use Rattle.std.proofs.lemmas.Bool.{leb-true}
 use Rattle.std.proofs.lemmas.List.{get_or_default}
 use Rattle.nd_map.specs.Listed.{IsListed}
 use Rattle.nd_paths.specs.Order.{IsStrictlyBefore}
 use Rattle.nd_paths.specs.Point.{point_cmp}
 use Rattle.nd_paths.specs.declared.point.Pointstamp.{Pointstamp}
-use Rattle.nd_view.specs.Links.{IsEpochal, IsLater, IsRun, AreSmaller}
+use Rattle.nd_view.specs.Links.{IsEpochal, IsRun, AreSmaller}
 use Rattle.nd_view.specs.Kept.{IsKeptAt, IsMovable, IsReady, moved}
 use Rattle.nd_view.specs.Rows.{IsPutIn, Row, joined, row_of, points_by_row}
-use Rattle.nd_view.proofs.LinksLemmas.{after}
-use Rattle.nd_view.proofs.Moved.{all_moved, moved_points}
-use Rattle.nd_view.proofs.Runs.{in_run}
-use Rattle.nd_view.proofs.Shifts.{IsMovedUpTo, moved_none, moved_all, movable, stays, ready_absent, room, some, arrived}
-use Rattle.nd_view.proofs.Starts.{all_points, start, start-first, keys, next_row, last_row, same_row, same_row_key}
+use Rattle.nd_view.proofs.LinksLemmas.{after, beside_it, never_after}
+use Rattle.nd_view.proofs.Runs.{in_run, two_points}
+use Rattle.nd_view.proofs.Shifts.{IsMovedUpTo, moved_none, moved_all, movable, stays, ready_absent, room, some, arrived, busy, waiting_on}
+use Rattle.nd_view.proofs.Starts.{all_points, start, start-first, entry_is, entry_within, keys, next_row, last_row, same_row, same_row_key}
 use Rattle.nd_view.proofs.Walks.{all_skip, row_waiting, row_skip, row_put}
 use Rattle.nd_view.proofs.keeping.shift.Given.{Over}
 use Rattle.nd_view.proofs.keeping.shift.Goals as goal
-use Rattle.nd_view.proofs.keeping.shift.Goals.{After-index-row-k, After-row, then-is_after, else-is_after, then-end-gt0+then-leads+else-loop-k-test, else-end-gt0, else-end-gt0-via-then-end-gt0+else-leads, else-end-gt0-via-else-end-gt0}
+use Rattle.nd_view.proofs.keeping.shift.Goals.{After-index-row-k, After-index-row-k-in-loop-k-then-leads, After-later_from-later, After-row, After-row-in-loop-k-then-leads, Then-is_outside, then-is_outside, else-is_outside, then-is_strictly_before, else-is_strictly_before, then-end-gt0+then-leads+else-loop-k-test+else-loop-k-then-leads-test, else-end-gt0, else-end-gt0-via-then-end-gt0+else-leads, else-end-gt0-via-else-end-gt0}
 
 pub loop-r-init : goal.loop-r-init
 loop-r-init g c =
@@ -26,7 +24,7 @@ loop-r-init g c =
     record {
       points = refl;
       moved = moved_none c.args.paths.now c.args.counts.now (IsReady c.args.paths.now c.args.counts.now c.args.point.now c.args.up) (all_points ps) (joined rows) (start ps 0)
-          (keys rows ps refl) c.len-r-end.ensures.listed (start-first ps) c.requires;
+          (keys rows ps refl) c.len-r-end.ensures.listed (start-first ps) c.requires.ready;
     }
 
 -- the entries with smaller epochs
@@ -42,7 +40,6 @@ loop-k-init g c =
     let h = c.loop-r.invariant in
     let small : AreSmaller (row_of rows r) 0 c.epoch_from-start.result p.time.epoch = rw (c.row-row.ensures.value, c.epoch.ensures) at c.epoch_from-start.ensures.smaller in
     record {
-      upto = c.epoch_from-start.ensures.upto;
       points = h.points;
       moved = all_skip d m R rows ps h.points r 0 c.epoch_from-start.result (omega arith) (rw c.row-row.ensures.value at c.epoch_from-start.ensures.upto)
           (λ k e from before is waiting.
@@ -50,177 +47,264 @@ loop-k-init g c =
           (subst (λ i. IsMovedUpTo d m R (all_points ps) i (joined rows)) (omega arith) h.moved);
     }
 
--- the index of an entry in the row, in which numbers may have been moved since
-in_row : (g : Over) (c : After-row g) → c.loop-k.k < length (row_of c.loop-k.precursor_counts c.loop-r.r)
-in_row g c =
-    let same = same_row c.loop-r.precursor_counts c.loop-k.precursor_counts (c.loop-k.invariant.points ∙ sym c.loop-r.invariant.points) c.loop-r.r in
-    omega (arith, c.loop-k-test.true, ap length c.row-row.ensures.value, same)
+-- an entry of the row that is next
+module _ (g : Over) (c : After-later_from-later g) (rows : List Row) (points : points_by_row rows ≡ points_by_row c.args.precursor_counts.now)
+    (k : ℕ) (inside : k < length c.row-row.result.now) where
+  in_row : k < length (row_of rows c.loop-r.r)
+  in_row =
+      let same = same_row c.loop-r.precursor_counts rows (points ∙ sym c.loop-r.invariant.points) c.loop-r.r in
+      omega (arith, inside, same, ap length c.row-row.ensures.value)
 
-pub bounds-row-k : goal.bounds-row-k
-bounds-row-k g c = let lt = in_row g c in omega (arith, lt, ap length c.row.ensures.value)
+  module _ (e : Pointstamp × ℕ) (is : e ≡ get_or (row_of rows c.loop-r.r) k e) where
+    abbrev row_entry : Pointstamp × ℕ
+    row_entry = get_or c.row-row.result.now k e
 
--- an entry of the row, in which numbers may have been moved since, has the point that it had
-module _ (g : Over) (c : After-row g) (rows : List Row) (points : points_by_row rows ≡ points_by_row c.args.precursor_counts.now)
-    (k : ℕ) (e : Pointstamp × ℕ) (lt : k < length (row_of c.loop-r.precursor_counts c.loop-r.r)) (is : e ≡ get_or (row_of rows c.loop-r.r) k e) where
-  its_point : e.0 ≡ (get_or (row_of c.loop-r.precursor_counts c.loop-r.r) k e).0
-  its_point = ap (λ y. y.0) is ∙ same_row_key c.loop-r.precursor_counts rows (points ∙ sym c.loop-r.invariant.points) c.loop-r.r k e lt
+    row_is : row_entry ≡ get_or c.row-row.result.now k row_entry
+    row_is = get_or_default c.row-row.result.now k e row_entry inside
 
-  epochal_to : IsTrue c.is_epochal-is_epochal.result → IsEpochal c.args.paths.now c.args.point.now.location e.0.location
-  epochal_to told = λ s t from to.
-      let row = row_of c.loop-r.precursor_counts c.loop-r.r in
-      let last = c.index-row-end-then-leads.result in
-      let run : IsRun row 0 (length row) = rw c.row-row.ensures.value at c.row-row.ensures.run in
-      let at : last ≡ get_or row (length row - 1) last = rw c.row-row.ensures.value at c.index-row-end-then-leads.is in
-      let was = get_or row k e in
-      let place = (in_run row (rw c.row-row.ensures.value at c.row-row.ensures.listed) run k (length row - 1) was last (omega (arith, lt)) (omega (arith, lt)) (get_or_default row k e was lt) at).0 in
-      c.is_epochal-is_epochal.ensures.epochal told s t from (to ∙ ap (λ p. p.location) its_point ∙ place ∙ ap (λ e. e.0.location) c.index-row-end-then-leads.is)
+    -- it has the point that it had
+    its_point : e.0 ≡ row_entry.0
+    its_point =
+        let lt : k < length (row_of c.loop-r.precursor_counts c.loop-r.r) = rw c.row-row.ensures.value at inside in
+        ap (λ y. y.0) is ∙ same_row_key c.loop-r.precursor_counts rows (points ∙ sym c.loop-r.invariant.points) c.loop-r.r k e lt
+        ∙ ap (λ row. (get_or row k e).0) (sym c.row-row.ensures.value)
 
-  later_than : c.later_from-later.result ≤ k → IsLater c.args.paths.now c.args.point.now e.0
-  later_than from =
-      let inside : k < length c.row-row.result.now = omega (arith, lt, ap length c.row-row.ensures.value) in
-      let epochal = c.later_from-later.ensures.epochal (omega (arith, inside, from)) in
-      let more = c.later_from-later.ensures.later k e from inside in
-      let key = its_point in
-      record {
-        epochal = epochal_to epochal;
-        outside = c.is_epochal-is_epochal.ensures.outside epochal;
-        later = omega (arith, c.epoch-then-leads.ensures, ap (λ p. p.time.epoch) key, rw c.row-row.ensures.value at more);
+    epochal_to : IsTrue c.is_epochal-is_epochal.result → IsEpochal c.args.paths.now c.args.point.now.location e.0.location
+    epochal_to told = λ s t from to.
+        let row = c.row-row.result.now in
+        let last = c.index-row-end-then-leads.result in
+        let place = (in_run row c.row-row.ensures.listed c.row-row.ensures.run k (length row - 1) row_entry last (omega (arith, inside)) (omega (arith, inside)) row_is c.index-row-end-then-leads.is).0 in
+        c.is_epochal-is_epochal.ensures.epochal told s t from (to ∙ ap (λ q. q.location) its_point ∙ place ∙ ap (λ y. y.0.location) c.index-row-end-then-leads.is)
+
+    -- an entry with a later epoch
+    module _ (from : c.later_from-later.result ≤ k) where
+      told : IsTrue c.is_epochal-is_epochal.result
+      told = c.later_from-later.ensures.epochal (omega (arith, inside, from))
+
+      strictly : e.0.time.counters ≡ [] → IsStrictlyBefore c.args.paths.now c.args.point.now e.0
+      strictly outside =
+          let more = c.later_from-later.ensures.later k e from inside in
+          after c.args.paths.now c.args.point.now e.0 (epochal_to told) (c.is_epochal-is_epochal.ensures.outside told) outside
+          (omega (arith, c.epoch-then-leads.ensures, ap (λ q. q.time.epoch) its_point, more))
+
+      never : (e.0.time.counters ≡ [] → ⊥) → IsStrictlyBefore c.args.paths.now c.args.point.now e.0 → ⊥
+      never = never_after c.args.paths.now c.args.point.now e.0 (epochal_to told) (c.is_epochal-is_epochal.ensures.outside told)
+
+      -- an entry before it is its precursor, too
+      not_alone : e.0.time.counters ≡ [] → IsMovable c.args.paths.now c.args.counts.now e.0 c.args.up (Some e.1) → (e.1 ≢ 0) × (moved c.args.up e.1 ≢ 0)
+      not_alone outside movable_it =
+          let d = c.args.paths.now in
+          let m = c.args.counts.now in
+          let p = c.args.point.now in
+          let row = c.row-row.result.now in
+          let old = c.loop-r.precursor_counts in
+          let r = c.loop-r.r in
+          let h = c.loop-r.invariant in
+          let ps = points_by_row c.args.precursor_counts.now in
+          let one = c.later_from-later.ensures.one (omega (arith, inside, from)) in
+          let f = one.entry in
+          let both = in_run row c.row-row.ensures.listed c.row-row.ensures.run one.index k f row_entry (omega (arith, one.early, from)) inside one.is row_is in
+          let place : f.0.location ≡ e.0.location = both.0 ∙ ap (λ q. q.location) (sym its_point) in
+          let less : p.time.epoch < f.0.time.epoch = omega (arith, one.later, c.epoch-then-leads.ensures) in
+          let first = after d p f.0 (λ s t from to. epochal_to told s t from (to ∙ place)) (c.is_epochal-is_epochal.ensures.outside told) one.outside less in
+          let lt : one.index < length (row_of old r) = omega (arith, one.early, from, inside, ap length c.row-row.ensures.value) in
+          let at : f ≡ get_or (row_of old r) one.index f = one.is ∙ ap (λ l. get_or l one.index f) c.row-row.ensures.value in
+          let waiting = waiting_on d m (IsReady d m p c.args.up) (all_points ps) (start ps r) (start ps r + one.index) (joined old) h.moved f (omega arith)
+          (entry_within old ps h.points r one.index lt) (entry_is old ps h.points r one.index f lt at) in
+          let kept = arrived d m p c.args.up f.0 f.1 (movable d m p c.args.up f.0 f.1 waiting first) in
+          let ahead = beside_it d p f.0 e.0 first.0 place one.outside outside (omega (arith, both.1, ap (λ q. q.time.epoch) its_point))
+          (λ same. two_points row c.row-row.ensures.listed one.index k f row_entry (omega (arith, one.early, from)) inside one.is row_is (same ∙ its_point)) in
+          busy d m p c.args.up e.0 e.1 movable_it (λ up. record { positive = c.requires.up up; before = strictly outside }) f.0
+          (record { positive = kept.0; before = ahead }) (λ same. omega (arith, less, ap (λ q. q.time.epoch) same))
+
+    -- its count
+    module _ (before : IsMovedUpTo c.args.paths.now c.args.counts.now (IsReady c.args.paths.now c.args.counts.now c.args.point.now c.args.up) (all_points (points_by_row c.args.precursor_counts.now))
+        (start (points_by_row c.args.precursor_counts.now) c.loop-r.r + k) (joined rows)) where
+      abbrev IsRight : List Row → Type 0
+      IsRight news = record {
+        points : points_by_row news ≡ points_by_row c.args.precursor_counts.now;
+        moved : IsMovedUpTo c.args.paths.now c.args.counts.now (IsReady c.args.paths.now c.args.counts.now c.args.point.now c.args.up) (all_points (points_by_row c.args.precursor_counts.now))
+            (start (points_by_row c.args.precursor_counts.now) c.loop-r.r + (k + 1)) (joined news);
       }
 
--- the next entry
-next_is : (g : Over) (c : After-index-row-k g) → c.index-row-k.result ≡ get_or (row_of c.loop-k.precursor_counts c.loop-r.r) c.loop-k.k c.index-row-k.result
-next_is g c = rw c.row.ensures.value at c.index-row-k.is
+      waits : IsReady c.args.paths.now c.args.counts.now c.args.point.now c.args.up e.0 (Some e.1)
+      waits = row_waiting c.args.paths.now c.args.counts.now (IsReady c.args.paths.now c.args.counts.now c.args.point.now c.args.up) rows (points_by_row c.args.precursor_counts.now)
+          points c.loop-r.r k e in_row is before
 
-was_in_row : (g : Over) (c : After-row g) → c.loop-k.k < length (row_of c.loop-r.precursor_counts c.loop-r.r)
-was_in_row g c = omega (arith, c.loop-k-test.true, ap length c.row-row.ensures.value)
+      ready : IsStrictlyBefore c.args.paths.now c.args.point.now e.0 → IsMovable c.args.paths.now c.args.counts.now e.0 c.args.up (Some e.1)
+      ready = movable c.args.paths.now c.args.counts.now c.args.point.now c.args.up e.0 e.1 waits
 
-pub is_after-requires-clause-epochal : goal.is_after-requires-clause-epochal
-is_after-requires-clause-epochal g c =
-    let at = goal.at.is_after-requires-clause-epochal g c in
-    epochal_to g at.After-row c.loop-k.precursor_counts c.loop-k.invariant.points c.loop-k.k c.index-row-k.result (was_in_row g at.After-row) (next_is g at.After-index-row-k)
+      right_if_moved : (news : List Row) (n : ℕ) → IsStrictlyBefore c.args.paths.now c.args.point.now e.0 → n ≡ moved c.args.up e.1 → IsPutIn c.loop-r.r k n rows news
+          → points_by_row news ≡ points_by_row rows → IsListed point_cmp (joined news) → IsRight news
+      right_if_moved news n strict n_is put same listed =
+          let d = c.args.paths.now in
+          let m = c.args.counts.now in
+          let p = c.args.point.now in
+          record {
+            points = same ∙ points;
+            moved = row_put d m (IsReady d m p c.args.up) rows (points_by_row c.args.precursor_counts.now) points c.loop-r.r k e in_row is before news n put same listed
+                (subst (λ i. IsKeptAt d m e.0 (Some i)) (sym n_is) (arrived d m p c.args.up e.0 e.1 (ready strict)));
+          }
 
-pub is_after-requires-clause-later : goal.is_after-requires-clause-later
-is_after-requires-clause-later g c = λ yes.
-    let at = goal.at.is_after-requires-clause-later g c in
-    later_than g at.After-row c.loop-k.precursor_counts c.loop-k.invariant.points c.loop-k.k c.index-row-k.result (was_in_row g at.After-row) (next_is g at.After-index-row-k)
-    (leb-true c.later_from-later.result c.loop-k.k yes)
+      right_as_it_was : (IsStrictlyBefore c.args.paths.now c.args.point.now e.0 → ⊥) → IsRight rows
+      right_as_it_was away =
+          let d = c.args.paths.now in
+          let m = c.args.counts.now in
+          let p = c.args.point.now in
+          record {
+            points = points;
+            moved = row_skip d m (IsReady d m p c.args.up) rows (points_by_row c.args.precursor_counts.now) points c.loop-r.r k e in_row is before
+                (stays d m p c.args.up e.0 e.1 waits away);
+          }
 
--- the entry has waited
-entry_waiting : (g : Over) (c : After-index-row-k g) → IsReady c.args.paths.now c.args.counts.now c.args.point.now c.args.up c.index-row-k.result.0 (Some c.index-row-k.result.1)
-entry_waiting g c =
-    let h = c.loop-k.invariant in
-    row_waiting c.args.paths.now c.args.counts.now (IsReady c.args.paths.now c.args.counts.now c.args.point.now c.args.up) c.loop-k.precursor_counts (points_by_row c.args.precursor_counts.now)
-    h.points c.loop-r.r c.loop-k.k c.index-row-k.result (in_row g (goal.at.is_after-requires-clause-epochal g c).After-row) (next_is g c) h.moved
+-- ---- the entries that are tested
+tested_inside : (g : Over) (c : After-row g) → c.loop-k.k < length c.row-row.result.now
+tested_inside g c = omega (arith, c.loop-k-test.true, c.later_from-later.ensures.upto)
 
--- the number of an entry strictly after the point is ready to be moved
-entry_movable : (g : Over) (c : goal.Then-is_after g) → IsMovable c.args.paths.now c.args.counts.now c.index-row-k.result.0 c.args.up (Some c.index-row-k.result.1)
-entry_movable g c =
-    let x = c.index-row-k.result in
-    movable c.args.paths.now c.args.counts.now c.args.point.now c.args.up x.0 x.1 (entry_waiting g (goal.at.moved_by_one-n-requires-clause-some g c).After-index-row-k) (c.if-is_after.ensures.0 refl)
+tested_is : (g : Over) (c : After-index-row-k g) → c.index-row-k.result ≡ get_or (row_of c.loop-k.precursor_counts c.loop-r.r) c.loop-k.k c.index-row-k.result
+tested_is g c = rw c.row.ensures.value at c.index-row-k.is
+
+pub bounds-row-k : goal.bounds-row-k
+bounds-row-k g c =
+    let at = goal.at.bounds-row-k g c in
+    let lt = in_row g at.After-later_from-later c.loop-k.precursor_counts c.loop-k.invariant.points c.loop-k.k (tested_inside g c) in
+    omega (arith, lt, ap length c.row.ensures.value)
+
+pub is_strictly_before-requires : goal.is_strictly_before-requires
+is_strictly_before-requires g c =
+    let at = goal.at.is_strictly_before-requires g c in
+    epochal_to g at.After-later_from-later c.loop-k.precursor_counts c.loop-k.invariant.points c.loop-k.k (tested_inside g at.After-row) c.index-row-k.result (tested_is g at.After-index-row-k)
+
+tested_ready : (g : Over) (c : goal.Then-is_strictly_before g) → IsMovable c.args.paths.now c.args.counts.now c.index-row-k.result.0 c.args.up (Some c.index-row-k.result.1)
+tested_ready g c =
+    let at = goal.at.moved_by_one-n-requires-clause-some g c in
+    ready g at.After-later_from-later c.loop-k.precursor_counts c.loop-k.invariant.points c.loop-k.k (tested_inside g at.After-row) c.index-row-k.result (tested_is g at.After-index-row-k)
+    c.loop-k.invariant.moved (c.if-is_strictly_before.ensures.0 refl)
 
 pub moved_by_one-n-requires-clause-room : goal.moved_by_one-n-requires-clause-room
 moved_by_one-n-requires-clause-room g c = λ up.
     let x = c.index-row-k.result in
-    let fit = room c.args.paths.now c.args.counts.now c.args.point.now c.args.up x.0 x.1 (entry_movable g c) up in
+    let fit = room c.args.paths.now c.args.counts.now c.args.point.now c.args.up x.0 x.1 (tested_ready g c) up in
     omega (arith, fit, c.len.ensures, c.len.type_inv)
 
 pub moved_by_one-n-requires-clause-some : goal.moved_by_one-n-requires-clause-some
 moved_by_one-n-requires-clause-some g c =
     let x = c.index-row-k.result in
-    some c.args.paths.now c.args.counts.now c.args.point.now c.args.up x.0 x.1 (entry_movable g c)
+    some c.args.paths.now c.args.counts.now c.args.point.now c.args.up x.0 x.1 (tested_ready g c)
 
 pub put_at-requires-clause-entry : goal.put_at-requires-clause-entry
-put_at-requires-clause-entry g c = in_row g (goal.at.put_at-requires-clause-entry g c).After-row
-
--- the entry has its count
-module _ (g : Over) (c : After-index-row-k g) (lt : c.loop-k.k < length (row_of c.loop-k.precursor_counts c.loop-r.r)) where
-  abbrev IsRight : List Row → Type 0
-  IsRight rows = record {
-    points : points_by_row rows ≡ points_by_row c.args.precursor_counts.now;
-    moved : IsMovedUpTo c.args.paths.now c.args.counts.now (IsReady c.args.paths.now c.args.counts.now c.args.point.now c.args.up) (all_points (points_by_row c.args.precursor_counts.now))
-        (start (points_by_row c.args.precursor_counts.now) c.loop-r.r + (c.loop-k.k + 1)) (joined rows);
-  }
-
-  right_if_moved : (rows : List Row) (n : ℕ) → IsStrictlyBefore c.args.paths.now c.args.point.now c.index-row-k.result.0 → n ≡ moved c.args.up c.index-row-k.result.1
-      → IsPutIn c.loop-r.r c.loop-k.k n c.loop-k.precursor_counts rows → points_by_row rows ≡ points_by_row c.loop-k.precursor_counts → IsListed point_cmp (joined rows) → IsRight rows
-  right_if_moved rows n strict n_is put points listed =
-      let d = c.args.paths.now in
-      let m = c.args.counts.now in
-      let p = c.args.point.now in
-      let x = c.index-row-k.result in
-      let h = c.loop-k.invariant in
-      let ready = movable d m p c.args.up x.0 x.1 (entry_waiting g c) strict in
-      record {
-        points = points ∙ h.points;
-        moved = row_put d m (IsReady d m p c.args.up) c.loop-k.precursor_counts (points_by_row c.args.precursor_counts.now) h.points c.loop-r.r c.loop-k.k x lt (next_is g c) h.moved rows n put points listed
-            (subst (λ i. IsKeptAt d m x.0 (Some i)) (sym n_is) (arrived d m p c.args.up x.0 x.1 ready));
-      }
-
-  right_as_it_was : (IsStrictlyBefore c.args.paths.now c.args.point.now c.index-row-k.result.0 → ⊥) → IsRight c.loop-k.precursor_counts
-  right_as_it_was never =
-      let d = c.args.paths.now in
-      let m = c.args.counts.now in
-      let p = c.args.point.now in
-      let x = c.index-row-k.result in
-      let h = c.loop-k.invariant in
-      record {
-        points = h.points;
-        moved = row_skip d m (IsReady d m p c.args.up) c.loop-k.precursor_counts (points_by_row c.args.precursor_counts.now) h.points c.loop-r.r c.loop-k.k x lt (next_is g c) h.moved
-            (stays d m p c.args.up x.0 x.1 (entry_waiting g c) never);
-      }
+put_at-requires-clause-entry g c =
+    let at = goal.at.put_at-requires-clause-entry g c in
+    in_row g at.After-later_from-later c.loop-k.precursor_counts c.loop-k.invariant.points c.loop-k.k (tested_inside g at.After-row)
 
 pub loop-k-preserved : goal.loop-k-preserved
 loop-k-preserved g c =
     let at = goal.at.loop-k-preserved g c in
-    let lt = in_row g at.After-row in
-    let now : IsRight g at.After-index-row-k lt c.if-is_after.precursor_counts = elim c.if-is_after.branch [
-      | then-is_after w ↦ subst (IsRight g at.After-index-row-k lt) (sym w.precursor_counts-is)
-          (right_if_moved g at.After-index-row-k lt w.put_at.new.self w.moved_by_one-n.result (w.if-is_after.ensures.0 refl) w.moved_by_one-n.ensures w.put_at.ensures.value w.put_at.ensures.points w.put_at.ensures.listed)
-      | else-is_after w ↦ subst (IsRight g at.After-index-row-k lt) (sym w.precursor_counts-is) (right_as_it_was g at.After-index-row-k lt (λ before. true≢false (sym (w.if-is_after.ensures.1 before))))
+    let rows = c.loop-k.precursor_counts in
+    let h = c.loop-k.invariant in
+    let k = c.loop-k.k in
+    let x = c.index-row-k.result in
+    let lt = tested_inside g at.After-row in
+    let is = tested_is g at.After-index-row-k in
+    let now : IsRight g at.After-later_from-later rows h.points k lt x is h.moved c.if-is_strictly_before.precursor_counts = elim c.if-is_strictly_before.branch [
+      | then-is_strictly_before w ↦ subst (IsRight g at.After-later_from-later rows h.points k lt x is h.moved) (sym w.precursor_counts-is)
+          (right_if_moved g at.After-later_from-later rows h.points k lt x is h.moved w.put_at.new.self w.moved_by_one-n.result (w.if-is_strictly_before.ensures.0 refl) w.moved_by_one-n.ensures
+          w.put_at.ensures.value w.put_at.ensures.points w.put_at.ensures.listed)
+      | else-is_strictly_before w ↦ subst (IsRight g at.After-later_from-later rows h.points k lt x is h.moved) (sym w.precursor_counts-is)
+          (right_as_it_was g at.After-later_from-later rows h.points k lt x is h.moved (λ before. true≢false (sym (w.if-is_strictly_before.ensures.1 before))))
     ] in
-    record { upto = omega (arith, c.loop-k-test.true); points = now.points; moved = now.moved }
+    record { points = now.points; moved = now.moved }
 
-pub move_from-k-requires-clause-entry : goal.move_from-k-requires-clause-entry
-move_from-k-requires-clause-entry g c =
-    let at = goal.at.move_from-k-requires-clause-entry g c in
-    let lt = in_row g at.After-row in
-    let now : IsRight g at.After-index-row-k lt c.if-is_after.precursor_counts = elim c.if-is_after.branch [
-      | then-is_after w ↦ subst (IsRight g at.After-index-row-k lt) (sym w.precursor_counts-is)
-          (right_if_moved g at.After-index-row-k lt w.put_at.new.self w.moved_by_one-n.result (w.if-is_after.ensures.0 refl) w.moved_by_one-n.ensures w.put_at.ensures.value w.put_at.ensures.points w.put_at.ensures.listed)
-      | else-is_after w ↦ subst (IsRight g at.After-index-row-k lt) (sym w.precursor_counts-is) (right_as_it_was g at.After-index-row-k lt (λ before. true≢false (sym (w.if-is_after.ensures.1 before))))
-    ] in
-    let same = same_row c.loop-r.precursor_counts c.if-is_after.precursor_counts (now.points ∙ sym c.loop-r.invariant.points) c.loop-r.r in
-    omega (arith, c.loop-k-test.true, same, ap length c.row-row.ensures.value)
-
--- the entries after it, too
-pub loop-k-preserved-then-k-later : goal.loop-k-preserved-then-k-later
-loop-k-preserved-then-k-later g c =
-    let d = c.args.paths.now in
-    let m = c.args.counts.now in
-    let p = c.args.point.now in
+-- ---- the entries after them
+pub loop-k-then-leads-init : goal.loop-k-then-leads-init
+loop-k-then-leads-init g c =
     let ps = points_by_row c.args.precursor_counts.now in
-    let old = c.loop-r.precursor_counts in
-    let r = c.loop-r.r in
-    let at = goal.at.loop-k-preserved-then-k-later g c in
-    let lt = in_row g at.After-row in
-    let now : IsRight g at.After-index-row-k lt c.if-is_after.precursor_counts = elim c.if-is_after.branch [
-      | then-is_after w ↦ subst (IsRight g at.After-index-row-k lt) (sym w.precursor_counts-is)
-          (right_if_moved g at.After-index-row-k lt w.put_at.new.self w.moved_by_one-n.result (w.if-is_after.ensures.0 refl) w.moved_by_one-n.ensures w.put_at.ensures.value w.put_at.ensures.points w.put_at.ensures.listed)
-      | else-is_after w ↦ subst (IsRight g at.After-index-row-k lt) (sym w.precursor_counts-is) (right_as_it_was g at.After-index-row-k lt (λ before. true≢false (sym (w.if-is_after.ensures.1 before))))
-    ] in
-    let same = same_row old c.if-is_after.precursor_counts (now.points ∙ sym c.loop-r.invariant.points) r in
-    let those = c.move_from-k.ensures.moved in
+    let upto = c.loop-k.auto.k-end c.later_from-later.ensures.from in
+    let end : c.loop-k.k ≡ c.later_from-later.result = omega (arith, upto, c.loop-k-test.false) in
     record {
-      upto = omega (arith, c.move_from-k.ensures.within, same, ap length c.row-row.ensures.value);
-      points = moved_points r c.args.up (c.loop-k.k + 1) those.0 c.if-is_after.precursor_counts c.move_from-k.new.self those.2 ∙ now.points;
-      moved = subst (λ i. IsMovedUpTo d m (IsReady d m p c.args.up) (all_points ps) (start ps r + i) (joined c.move_from-k.new.self)) (sym those.1)
-          (all_moved r c.args.up (c.loop-k.k + 1) d m (IsReady d m p c.args.up) ps those.0 c.if-is_after.precursor_counts c.move_from-k.new.self now.points those.2
-          (λ rows k e points from upto lt is outside waiting.
-          let inside = same_row old rows (points ∙ sym c.loop-r.invariant.points) r in
-          let later = later_than g at.After-row rows points k e (omega (arith, lt, inside)) is (omega (arith, from, c.if-k-later.true)) in
-          arrived d m p c.args.up e.0 e.1 (movable d m p c.args.up e.0 e.1 waiting (after d p e.0 later outside)))
-          now.moved);
+      points = c.loop-k.invariant.points;
+      moved = subst (λ k. IsMovedUpTo c.args.paths.now c.args.counts.now (IsReady c.args.paths.now c.args.counts.now c.args.point.now c.args.up) (all_points ps)
+          (start ps c.loop-r.r + k) (joined c.loop-k.precursor_counts)) end c.loop-k.invariant.moved;
     }
+
+later_inside : (g : Over) (c : After-row-in-loop-k-then-leads g) → c.loop-k-then-leads.k < length c.row-row.result.now
+later_inside g c = omega (arith, c.loop-k-then-leads-test.true)
+
+later_is : (g : Over) (c : After-index-row-k-in-loop-k-then-leads g) → c.index-row-k-in-loop-k-then-leads.result ≡ get_or (row_of c.loop-k-then-leads.precursor_counts c.loop-r.r) c.loop-k-then-leads.k c.index-row-k-in-loop-k-then-leads.result
+later_is g c = rw c.row-in-loop-k-then-leads.ensures.value at c.index-row-k-in-loop-k-then-leads.is
+
+pub bounds-row-k-in-loop-k-then-leads : goal.bounds-row-k-in-loop-k-then-leads
+bounds-row-k-in-loop-k-then-leads g c =
+    let at = goal.at.bounds-row-k-in-loop-k-then-leads g c in
+    let lt = in_row g at.After-later_from-later c.loop-k-then-leads.precursor_counts c.loop-k-then-leads.invariant.points c.loop-k-then-leads.k (later_inside g c) in
+    omega (arith, lt, ap length c.row-in-loop-k-then-leads.ensures.value)
+
+later_ready : (g : Over) (c : Then-is_outside g) → IsMovable c.args.paths.now c.args.counts.now c.index-row-k-in-loop-k-then-leads.result.0 c.args.up (Some c.index-row-k-in-loop-k-then-leads.result.1)
+later_ready g c =
+    let at = goal.at.moved_by_one-n-requires-then-is_outside-clause-some g c in
+    let rows = c.loop-k-then-leads.precursor_counts in
+    let h = c.loop-k-then-leads.invariant in
+    let k = c.loop-k-then-leads.k in
+    let x = c.index-row-k-in-loop-k-then-leads.result in
+    let lt = later_inside g at.After-row-in-loop-k-then-leads in
+    let is = later_is g at.After-index-row-k-in-loop-k-then-leads in
+    ready g at.After-later_from-later rows h.points k lt x is h.moved (strictly g at.After-later_from-later rows h.points k lt x is c.loop-k-then-leads.auto.k (c.if-is_outside.ensures.0 refl))
+
+pub moved_by_one-n-requires-then-is_outside-clause-room : goal.moved_by_one-n-requires-then-is_outside-clause-room
+moved_by_one-n-requires-then-is_outside-clause-room g c = λ up.
+    let x = c.index-row-k-in-loop-k-then-leads.result in
+    let fit = room c.args.paths.now c.args.counts.now c.args.point.now c.args.up x.0 x.1 (later_ready g c) up in
+    omega (arith, fit, c.len.ensures, c.len.type_inv)
+
+pub moved_by_one-n-requires-then-is_outside-clause-some : goal.moved_by_one-n-requires-then-is_outside-clause-some
+moved_by_one-n-requires-then-is_outside-clause-some g c =
+    let x = c.index-row-k-in-loop-k-then-leads.result in
+    some c.args.paths.now c.args.counts.now c.args.point.now c.args.up x.0 x.1 (later_ready g c)
+
+pub put_off_frontier-requires-clause-entry : goal.put_off_frontier-requires-clause-entry
+put_off_frontier-requires-clause-entry g c =
+    let at = goal.at.put_off_frontier-requires-clause-entry g c in
+    in_row g at.After-later_from-later c.loop-k-then-leads.precursor_counts c.loop-k-then-leads.invariant.points c.loop-k-then-leads.k (later_inside g at.After-row-in-loop-k-then-leads)
+
+-- neither its number nor the new one is 0
+off_frontier : (g : Over) (c : Then-is_outside g) → (c.index-row-k-in-loop-k-then-leads.result.1 ≢ 0) × (moved c.args.up c.index-row-k-in-loop-k-then-leads.result.1 ≢ 0)
+off_frontier g c =
+    let at = goal.at.moved_by_one-n-requires-then-is_outside-clause-some g c in
+    not_alone g at.After-later_from-later c.loop-k-then-leads.precursor_counts c.loop-k-then-leads.invariant.points c.loop-k-then-leads.k (later_inside g at.After-row-in-loop-k-then-leads) c.index-row-k-in-loop-k-then-leads.result (later_is g at.After-index-row-k-in-loop-k-then-leads)
+    c.loop-k-then-leads.auto.k (c.if-is_outside.ensures.0 refl) (later_ready g c)
+
+pub put_off_frontier-requires-clause-was : goal.put_off_frontier-requires-clause-was
+put_off_frontier-requires-clause-was g c = λ d z.
+    let at = goal.at.put_off_frontier-requires-clause-was g c in
+    let x = c.index-row-k-in-loop-k-then-leads.result in
+    let lt = in_row g at.After-later_from-later c.loop-k-then-leads.precursor_counts c.loop-k-then-leads.invariant.points c.loop-k-then-leads.k (later_inside g at.After-row-in-loop-k-then-leads) in
+    let here : x ≡ get_or (row_of c.loop-k-then-leads.precursor_counts c.loop-r.r) c.loop-k-then-leads.k d = later_is g at.After-index-row-k-in-loop-k-then-leads ∙ get_or_default (row_of c.loop-k-then-leads.precursor_counts c.loop-r.r) c.loop-k-then-leads.k x d lt in
+    (off_frontier g at.Then-is_outside).0 (ap (λ y. y.1) here ∙ z)
+
+pub put_off_frontier-requires-clause-is : goal.put_off_frontier-requires-clause-is
+put_off_frontier-requires-clause-is g c = λ z.
+    let at = goal.at.put_off_frontier-requires-clause-is g c in
+    (off_frontier g at.Then-is_outside).1 (sym c.moved_by_one-n-then-is_outside.ensures ∙ z)
+
+pub loop-k-then-leads-preserved : goal.loop-k-then-leads-preserved
+loop-k-then-leads-preserved g c =
+    let at = goal.at.loop-k-then-leads-preserved g c in
+    let rows = c.loop-k-then-leads.precursor_counts in
+    let h = c.loop-k-then-leads.invariant in
+    let k = c.loop-k-then-leads.k in
+    let x = c.index-row-k-in-loop-k-then-leads.result in
+    let lt = later_inside g at.After-row-in-loop-k-then-leads in
+    let is = later_is g at.After-index-row-k-in-loop-k-then-leads in
+    let now : IsRight g at.After-later_from-later rows h.points k lt x is h.moved c.if-is_outside.precursor_counts = elim c.if-is_outside.branch [
+      | then-is_outside w ↦ subst (IsRight g at.After-later_from-later rows h.points k lt x is h.moved) (sym w.precursor_counts-is)
+          (right_if_moved g at.After-later_from-later rows h.points k lt x is h.moved w.put_off_frontier.new.self w.moved_by_one-n-then-is_outside.result
+          (strictly g at.After-later_from-later rows h.points k lt x is c.loop-k-then-leads.auto.k (w.if-is_outside.ensures.0 refl)) w.moved_by_one-n-then-is_outside.ensures
+          w.put_off_frontier.ensures.value w.put_off_frontier.ensures.points w.put_off_frontier.ensures.listed)
+      | else-is_outside w ↦ subst (IsRight g at.After-later_from-later rows h.points k lt x is h.moved) (sym w.precursor_counts-is)
+          (right_as_it_was g at.After-later_from-later rows h.points k lt x is h.moved
+          (never g at.After-later_from-later rows h.points k lt x is c.loop-k-then-leads.auto.k (λ outside. true≢false (sym (w.if-is_outside.ensures.1 outside)))))
+    ] in
+    record { points = now.points; moved = now.moved }
 
 pub loop-r-preserved : goal.loop-r-preserved
 loop-r-preserved g c =
@@ -237,12 +321,12 @@ loop-r-preserved g c =
     let run : IsRun row 0 (length row) = rw c.row-row.ensures.value at c.row-row.ensures.run in
     let next = next_row old rows h.points r (omega (arith, c.loop-r-test.true, c.len-r-end.ensures.value)) in
     elim c.if-end-gt0.branch [
-      | then-end-gt0+then-leads+else-loop-k-test w ↦
-          let end : w.loop-k.k ≡ length row = (let upto = w.loop-k.invariant.upto in omega (arith, upto, w.loop-k-test.false, ap length c.row-row.ensures.value)) in
+      | then-end-gt0+then-leads+else-loop-k-test+else-loop-k-then-leads-test w ↦
+          let end : w.loop-k-then-leads.k ≡ length row = (let upto = w.loop-k-then-leads.auto.k-end (omega (arith, w.later_from-later.ensures.upto)) in omega (arith, upto, w.loop-k-then-leads-test.false, ap length c.row-row.ensures.value)) in
           record {
-            points = ap (λ v. points_by_row v) w.precursor_counts-is ∙ w.loop-k.invariant.points;
+            points = ap (λ v. points_by_row v) w.precursor_counts-is ∙ w.loop-k-then-leads.invariant.points;
             moved = subst (λ v. IsMovedUpTo d m R (all_points ps) (start ps (r + 1)) (joined v)) (sym w.precursor_counts-is)
-                (subst (λ i. IsMovedUpTo d m R (all_points ps) i (joined w.loop-k.precursor_counts)) (ap (λ k. start ps r + k) end ∙ next) w.loop-k.invariant.moved);
+                (subst (λ i. IsMovedUpTo d m R (all_points ps) i (joined w.loop-k-then-leads.precursor_counts)) (ap (λ k. start ps r + k) end ∙ next) w.loop-k-then-leads.invariant.moved);
           }
       | else-end-gt0 w ↦
           let Q : ℕ → Type 0 = λ i. IsMovedUpTo d m R (all_points ps) i (joined rows) in

@@ -1,4 +1,4 @@
-use Rattle.std.proofs.Common.{◌≡◌, ◌≤◌, ◌+◌, ◌-◌}
+use Rattle.std.proofs.Common.{◌≡◌, ◌+◌}
 use Rattle.nd_view.specs.Kept.{IsReady}
 use Rattle.nd_view.specs.Rows.{joined, points_by_row}
 use Rattle.nd_view.proofs.Shifts.{IsMovedUpTo}
@@ -14,10 +14,12 @@ invariant-loop-r g l = record {
 
 abbrev pub invariant-loop-k : goal.invariant-loop-k
 invariant-loop-k g l = record {
-  upto : l.k ≤ l.end;
   points : points_by_row l.precursor_counts ≡ points_by_row l.fn.precursor_counts;
   moved : IsMovedUpTo l.paths l.counts (IsReady l.paths l.counts l.point l.up) (all_points (points_by_row l.fn.precursor_counts)) (start (points_by_row l.fn.precursor_counts) l.r + l.k) (joined l.precursor_counts);
 }
 
-abbrev pub decreases-loop-k : goal.decreases-loop-k
-decreases-loop-k g l = l.end - l.k
+abbrev pub invariant-loop-k-then-leads : goal.invariant-loop-k-then-leads
+invariant-loop-k-then-leads g l = record {
+  points : points_by_row l.precursor_counts ≡ points_by_row l.fn.precursor_counts;
+  moved : IsMovedUpTo l.paths l.counts (IsReady l.paths l.counts l.point l.up) (all_points (points_by_row l.fn.precursor_counts)) (start (points_by_row l.fn.precursor_counts) l.r + l.k) (joined l.precursor_counts);
+}

@@ -1,37 +1,29 @@
-use Rattle.std.proofs.Common.{◌≡◌, ◌<◌, ◌≤◌, cond, pos, take, length, get_or, unsigned_abs, ap, subst, ◌∙◌, arith}
-use Rattle.nd_time.specs.Limits.{max_count}
-use Rattle.nd_delta.specs.Delta.{at, entries, has_point, points_of}
-use Rattle.nd_delta.specs.Least.{at-index}
-use Rattle.nd_delta.proofs.Sums.{kept, next_entry, entry_within, part_here, part_back}
+use Rattle.std.proofs.Common.{cond, false, pos, refl, ap, ◌∙◌}
+use Rattle.nd_delta.specs.Delta.{at, set}
+use Rattle.nd_delta.proofs.Sums.{first_entries, item_kept, next_entry, one_more, all_entries, combined_is, part_here, part_back}
 use Rattle.nd_delta.proofs.large.LargeDelta.put_part.Goals as goal
 
 pub put-requires : goal.put-requires
 put-requires g c =
-    let piece = c.args.part.now in
-    let i = c.loop-i.i in
-    let x = c.index-entries-i.result in
-    let lt : i < length (entries piece) = subst (λ es. i < length es) c.entries-entries.ensures.listed c.loop-i-test.true in
-    let is : x ≡ get_or (entries piece) i x = c.index-entries-i.is ∙ ap (λ es. get_or es i x) c.entries-entries.ensures.listed in
-    let small : unsigned_abs x.1 ≤ max_count = entry_within piece i x c.entries-entries.ensures.within lt is in
-    rw (kept x.1 (omega (arith, small))) small
+    let e = c.entries-entries.ensures in
+    rw (item_kept c.args.part.now e.listed e.within c.loop-i-test.true c.index-entries-i.is) (e.within c.index-entries-i.result.0)
+
+pub loop-i-init : goal.loop-i-init
+loop-i-init g c = record { value = λ q. refl }
 
 pub loop-i-preserved : goal.loop-i-preserved
 loop-i-preserved g c =
-    let piece = c.args.part.now in
-    let i = c.loop-i.i in
+    let e = c.entries-entries.ensures in
     let x = c.index-entries-i.result in
-    let lt : i < length (entries piece) = subst (λ es. i < length es) c.entries-entries.ensures.listed c.loop-i-test.true in
-    let is : x ≡ get_or (entries piece) i x = c.index-entries-i.is ∙ ap (λ es. get_or es i x) c.entries-entries.ensures.listed in
-    let small : unsigned_abs x.1 ≤ max_count = entry_within piece i x c.entries-entries.ensures.within lt is in
-    let set_is = rw (kept x.1 (omega (arith, small)), at-index piece i x lt is) at c.in-Ok.ensures.ok in
-    next_entry (entries piece) i x lt is (at piece) (at c.args.self.now) c.loop-i.self c.put.new.self c.loop-i.invariant set_is
+    one_more x.0 c.loop-i.invariant (c.in-Ok.ensures.ok ∙ ap (set c.loop-i.self x.0) (item_kept c.args.part.now e.listed e.within c.loop-i-test.true c.index-entries-i.is))
+    (next_entry c.entries-entries.result.now c.loop-i.i x c.loop-i-test.true c.index-entries-i.is)
 
 pub returns-in_default-clause-err : goal.returns-in_default-clause-err
 returns-in_default-clause-err g c =
-    let piece = c.args.part.now in
-    part_back c.args.self.now piece c.requires c.loop-i.i c.loop-i.self c.clear.new.self c.loop-i.invariant
-    (λ q. c.clear.ensures q ∙ (λ j. cond (has_point q (points_of (take c.loop-i.i (c.entries-entries.ensures.listed j)))) (pos 0) (at (c.in_default.ensures.err j) q)))
+    part_back c.args.self.now c.args.part.now c.requires c.loop-i.i c.entries-entries.ensures.listed c.loop-i.invariant
+    (λ q. c.clear.ensures q ∙ ap (λ m. cond (first_entries c.entries-entries.result.now c.loop-i.i q) (pos 0) (at m q)) c.in_default.ensures.err)
 
 pub returns-clause-ok : goal.returns-clause-ok
 returns-clause-ok g c =
-    part_here c.args.self.now c.args.part.now c.requires c.loop-i.i c.loop-i.self (subst (λ es. length es ≤ c.loop-i.i) c.entries-entries.ensures.listed c.loop-i-test.false) c.loop-i.invariant
+    combined_is false c.args.self.now c.args.part.now c.entries-entries.ensures.listed
+    (all_entries c.entries-entries.result.now c.loop-i.i c.loop-i-test.false c.loop-i.invariant) (part_here c.args.self.now c.args.part.now c.requires)

@@ -1,8 +1,7 @@
-use Rattle.std.proofs.Common.{◌≡◌, cond, take}
-use Rattle.nd_delta.specs.Delta.{at, entries, has_point, points_of}
-use Rattle.nd_paths.specs.declared.point.Pointstamp.{Pointstamp}
+use Rattle.nd_delta.specs.Delta.{at}
+use Rattle.nd_delta.proofs.Sums.{IsSplit, first_entries}
 use Rattle.nd_delta.proofs.large.LargeDelta.put_part.Given as goal
 
 -- the entries so far were added
 abbrev pub invariant-loop-i : goal.invariant-loop-i
-invariant-loop-i g l = (q : Pointstamp) → at l.self q ≡ cond (has_point q (points_of (take l.i (entries l.part)))) (at l.part q) (at l.fn.self q)
+invariant-loop-i g l = IsSplit (first_entries l.entries l.i) (at l.part) (at l.fn.self) l.self
