@@ -153,8 +153,8 @@ pub fn cluster(state: &State) -> &Cluster
 fn answer_do(alloc: Global, state: &mut State, command: Command) -> Result<Vec<u8>, AllocError>
     ensures reply { IfOk result (λ t. TellsOne
         (λ v. CommandReply (logged state.old) command v (logged state.new)) t.items) }
-    ensures memory { OnErr result
-        (IsOrFollows (CommandReply (logged state.old) command) (logged state.old) (logged state.new)) }
+    ensures memory { OnErr result (IsOrFollows (CommandReply (logged state.old) command)
+        (logged state.old) (logged state.new)) }
 {
     match state.answer(ONLY_CLIENT, command) {
         Ok(reply) => text_of(alloc, cluster(state).graph(), &reply),
@@ -171,8 +171,8 @@ fn answer_asked<R: Threads + Sync>(
 ) -> Result<Vec<u8>, AllocError>
     ensures reply { IfOk result (λ t. TellsOne
         (λ v. AskedReply (logged state.old) asked v (logged state.new)) t.items) }
-    ensures memory { OnErr result
-        (IsOrFollows (AskedReply (logged state.old) asked) (logged state.old) (logged state.new)) }
+    ensures memory { OnErr result (IsOrFollows (AskedReply (logged state.old) asked)
+        (logged state.old) (logged state.new)) }
 {
     match asked {
         Asked::Do(command) => answer_do(alloc, state, command),
