@@ -80,7 +80,7 @@ queries =
 -- the version and the meaning in the first row that has this word and the keys of this object
 abbrev pub find : {A : Type 0} → List (List ℕ × List (List ℕ) × Version × A) → List ℕ → Data → Option (Version × A)
 find [] word d = None
-find (row ∷ rows) word d = if bytes_eq word row.0 && has_keys row.1 d then Some row.2 else find rows word d
+find (row ∷ rows) word d = if bytes_eq word row.0 && has_keys row.1 d then Some (row.2, row.3) else find rows word d
 
 abbrev pub one_of : Option (Version × StepForm) → Option (Version × CommandForm) → Option (Version × QueryForm) → Option (Version × Form)
 one_of (Some (since, form)) command query = Some (since, Step form)
