@@ -12,7 +12,6 @@ ghost use Rattle.nd_protocol.specs.Ranges.{IsValue};
 ghost use Rattle.nd_protocol.specs.Fitting.{IsAtVertex, IsAtEdge, IsAtLocation, DeltaFits, DeltaIsWithin, ProcessorFits, ProcessorIsWithin, IsState};
 
 use crate::Cluster;
-use crate::start::MAX_PROCESSORS;
 use nd_delta::{Delta, LargeDelta};
 use nd_graph::{Graph, Op};
 use nd_mesh::Mesh;
@@ -20,6 +19,7 @@ use nd_paths::{Paths, Pointstamp};
 use nd_processor::{Processor, SinkKey, ValueAt, token_point};
 use nd_protocol::times_are_small;
 use nd_steps::{Parts, op_at};
+use nd_time::limits::MAX_PROCESSORS;
 use nd_vertex::{ItemKey, VertexState};
 use nd_view::View;
 use std::alloc::Allocator;
@@ -315,7 +315,7 @@ fn parts_fit<A: Allocator + Copy>(
     let _ = graph.vertices();
     let _ = graph.all_arcs();
     let n = processors.len();
-    if n == 0 || n > MAX_PROCESSORS as usize {
+    if n == 0 || n > MAX_PROCESSORS {
         return false;
     }
     if views.len() != n || mesh.n() != n {

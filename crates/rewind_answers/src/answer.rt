@@ -14,6 +14,7 @@ use crate::stage::Script;
 use nd_cluster::{Cluster, StartFault};
 use nd_graph::{Graph, GraphDraft, GraphFault};
 use nd_session::State;
+use nd_time::limits::{MAX_PROCESSORS, MAX_PROCESSORS_V1};
 use nd_timeline::{Command, Timeline};
 use rewind_forms::{
     Asked, ErrorReply, GraphReply, NoNames, Version, asked_of, line_fault, text_of,
@@ -68,9 +69,9 @@ fn most_processors(version: Version) -> u8
     ensures { result ≡ most_in version }
 {
     if version.includes(Version::Second) {
-        16
+        MAX_PROCESSORS as u8
     } else {
-        8
+        MAX_PROCESSORS_V1 as u8
     }
 }
 
