@@ -243,7 +243,6 @@ fn send_queues<S: Serializer, A: Allocator + Copy>(
 
 /// Sends the state of a cluster: its processors, each with its view, and its queues. Each list is in the
 /// order of its keys.
-#[tactic(auto, unfolding(crate::specs::StateText::state_data))]
 pub fn send_state<S: Serializer, A: Allocator + Copy>(
     out: &mut S,
     parts: &Parts<A>,

@@ -1,10 +1,8 @@
-use Rattle.std.proofs.Common.{◌≡◌, ◌∙◌, ◌<◌, length, get_or, sym, subst, arith}
+use Rattle.std.proofs.Common.{◌≡◌, ◌∙◌, ◌<◌, length, get_or, sym, arith}
 use Rattle.std.proofs.lemmas.List.{get_or_default}
 use Rattle.std.proofs.lemmas.Result.{on_ok_weaker}
 use Rattle.std.proofs.lemmas.Slice.Zip.{length-zip, get_or-zip}
 use Rattle.std.specs.List.{zip}
-use Rattle.serde_json.specs.Events.{SendsValue}
-use Rattle.nd_graph.specs.Graph.{Dataflow}
 use Rattle.nd_delta.specs.Delta.{DeltaValue, none}
 use Rattle.nd_processor.specs.State.{ProcessorState, idle}
 use Rattle.nd_protocol.specs.State.{processor, view}
@@ -24,7 +22,7 @@ loop-p-preserved g c =
     = (λ i. (get_or_default s.processors p idle x first i, get_or_default s.views p none y second i)) ∙ sym (get_or-zip s.processors s.views p (x, y) first second) in
     sent-more (λ (e : ProcessorState × DeltaValue). processor_data s.graph e.0 e.1) (zip s.processors s.views) p (x, y) _ _ _ _ (omega (arith, first, c.requires, length-zip s.processors s.views)) here
     c.loop-p.invariant
-    (subst (λ (e : Dataflow × (ProcessorState × DeltaValue)). SendsValue (processor_data e.0 e.1.0 e.1.1) _ _) (λ i. (c.graph.ensures i, (c.processor.ensures i, c.view.ensures.map i))) c.in_ok-send_processor.ensures)
+    (rw (c.graph.ensures, c.processor.ensures, c.view.ensures.map) at c.in_ok-send_processor.ensures)
 
 pub returns : goal.returns
 returns g c =
