@@ -12,7 +12,7 @@ pub view-requires : goal.view-requires
 view-requires g c = subst (λ n. c.args.question.now.q < n) (sym c.requires.state.fits.each_view) c.requires.q
 
 pub frontier_before-requires : goal.frontier_before-requires
-frontier_before-requires g c = view-requires g c
+frontier_before-requires g c = subst (λ n. c.args.question.now.q < n) (sym c.requires.state.fits.each_view) c.requires.q
 
 pub returns-clause-whole : goal.returns-clause-whole
 returns-clause-whole g c = IfOk-weaker c.reasons_at.result _ _ (λ w told. (c.in_ok-points.points, c.in_ok-points.ensures, told)) c.reasons_at.ensures
