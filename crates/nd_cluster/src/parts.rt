@@ -306,20 +306,19 @@ fn parts_fit<A: Allocator + Copy>(parts: &Parts<A>) -> bool
     ensures { IsTrue result ↔ IsState parts.now }
 {
     let graph = parts.paths().graph();
-    let processors = parts.processors();
-    let views = parts.views();
-    let mesh = parts.mesh();
     // The clauses of these two say that edges join vertices, and that depths agree along the arcs.
     let _ = graph.vertices();
     let _ = graph.all_arcs();
-    let n = processors.len();
+    let views = parts.views();
+    let mesh = parts.mesh();
+    let n = parts.n();
     if n == 0 || n > MAX_PROCESSORS as usize {
         return false;
     }
     if views.len() != n || mesh.n() != n {
         return false;
     }
-    if !processors_fit(graph, processors) {
+    if !processors_fit(graph, parts.processors()) {
         return false;
     }
     if !views_fit(graph, views) {
