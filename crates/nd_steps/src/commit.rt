@@ -4,7 +4,6 @@ ghost use Rattle.nd_protocol.specs.State.{ClusterState};
 ghost use Rattle.nd_protocol.specs.Fitting.{IsState};
 ghost use Rattle.nd_steps.specs.Records.{Makes, CameFrom, IsWhere, IsBackAt};
 
-use crate::told::Told;
 use crate::{Changes, Parts, Record};
 use std::alloc::{AllocError, Allocator};
 
@@ -17,11 +16,8 @@ impl<A: Allocator + Copy> Parts<A> {
         ensures err { OnErr result (self.new ≡ self.old) }
     {
         match &planned.changes {
-            Changes::Each(changes) => self.make_all(&Told::whole(changes)),
-            Changes::Flowed(flow) => self.make_all(&Told::whole(&flow.told(&planned.step))),
-            Changes::Fed(at) => {
-                let rest = at.rest(&planned.step);
-                self.make_all(&at.told(&planned.step, &rest))
+            Changes::Each(_) | Changes::Flowed(_) | Changes::Fed(_) => {
+                self.make_all(&planned.told())
             }
             Changes::Sent { p, part } => self.send(*p as usize, part),
             Changes::Received { from, to, change } => {
@@ -37,12 +33,7 @@ impl<A: Allocator + Copy> Parts<A> {
         ensures err { OnErr result (self.new ≡ self.old) }
     {
         match &made.changes {
-            Changes::Each(changes) => self.undo_all(&Told::whole(changes)),
-            Changes::Flowed(flow) => self.undo_all(&Told::whole(&flow.told(&made.step))),
-            Changes::Fed(at) => {
-                let rest = at.rest(&made.step);
-                self.undo_all(&at.told(&made.step, &rest))
-            }
+            Changes::Each(_) | Changes::Flowed(_) | Changes::Fed(_) => self.undo_all(&made.told()),
             Changes::Sent { p, part } => self.unsend(*p as usize, part),
             Changes::Received { from, to, change } => {
                 self.unreceive(alloc, *from as usize, *to as usize, change)

@@ -190,13 +190,8 @@ impl<A: Allocator + Copy> Parts<A> {
         ensures { IfOk result (IsEffectTo self.now (Makes self.now planned.now)) }
     {
         match &planned.changes {
-            Changes::Each(changes) => self.changes_effect(alloc, &Told::whole(changes)),
-            Changes::Flowed(flow) => {
-                self.changes_effect(alloc, &Told::whole(&flow.told(&planned.step)))
-            }
-            Changes::Fed(at) => {
-                let rest = at.rest(&planned.step);
-                self.changes_effect(alloc, &at.told(&planned.step, &rest))
+            Changes::Each(_) | Changes::Flowed(_) | Changes::Fed(_) => {
+                self.changes_effect(alloc, &planned.told())
             }
             Changes::Sent { p, part } => self.sent_effect(alloc, *p, part),
             Changes::Received { from, to, change } => {

@@ -1,14 +1,25 @@
 //! Changes applied to the parts of a cluster, one after the other, and undone.
-ghost use Rattle.std.specs.Prelude.{◌≡◌, ◌<◌, length, OnOk, OnErr};
-ghost use Rattle.nd_steps.specs.Changes.{inverse, made, applied, change_at, Fits, FindsNothing, IsRunnable};
+ghost use Rattle.std.specs.Prelude.{◌≡◌, OnOk, OnErr};
+ghost use Rattle.nd_steps.specs.Changes.{at_key, inverse, made, applied, Fits, FindsNothing, IsRunnable};
 ghost use Rattle.nd_steps.specs.Records.{RunsTo, CameFrom, IsBackAt};
 
 use crate::making::make_in;
 use crate::told::Told;
-use crate::{Change, Parts};
+use crate::{Change, Parts, Slot};
 use std::alloc::{AllocError, Allocator};
 
 impl<A: Allocator + Copy> Parts<A> {
+    // Adds `n` at a key of processor `p`'s maps. It takes no memory if the integer at the key is not 0.
+    fn add(&mut self, p: u32, slot: &Slot, n: i128) -> Result<(), AllocError>
+        requires { Fits self.old (at_key p slot.now n) }
+        ensures ok { OnOk result (self.new ≡ made self.old (at_key p slot.now n)) }
+        ensures err { OnErr result (self.new ≡ self.old) }
+        ensures absent { OnErr result (FindsNothing self.old (at_key p slot.now n)) }
+    {
+        let processor = &mut self.processors[p as usize];
+        make_in(processor, slot, n)
+    }
+
     // Applies a change. It takes no memory if the integer at the place is not 0.
     fn make(&mut self, change: &Change) -> Result<(), AllocError>
         requires { Fits self.old change.now }
@@ -16,22 +27,7 @@ impl<A: Allocator + Copy> Parts<A> {
         ensures err { OnErr result (self.new ≡ self.old) }
         ensures absent { OnErr result (FindsNothing self.old change.now) }
     {
-        let processor = &mut self.processors[change.p as usize];
-        make_in(processor, &change.slot, change.n)
-    }
-
-    // Applies change `i`. A change in a list is not copied.
-    fn make_at(&mut self, changes: &Told<'_>, i: usize) -> Result<(), AllocError>
-        requires there { i < length changes.now }
-        requires fits { Fits self.old (change_at changes.now i) }
-        ensures ok { OnOk result (self.new ≡ made self.old (change_at changes.now i)) }
-        ensures err { OnErr result (self.new ≡ self.old) }
-        ensures absent { OnErr result (FindsNothing self.old (change_at changes.now i)) }
-    {
-        match changes.listed(i) {
-            Some(change) => self.make(change),
-            None => self.make(&changes.get(i)),
-        }
+        self.add(change.p, &change.slot, change.n)
     }
 
     // Undoes a change: applies its inverse. It takes no memory if the integer at the place is not 0.
@@ -41,7 +37,7 @@ impl<A: Allocator + Copy> Parts<A> {
         ensures err { OnErr result (self.new ≡ self.old) }
         ensures absent { OnErr result (FindsNothing self.old change.now) }
     {
-        self.make(&change.inverse())
+        self.add(change.p, &change.slot, change.opposite())
     }
 
     // Applies changes, one after the other. If memory runs out midway, it undoes those that it has applied, by
@@ -53,9 +49,10 @@ impl<A: Allocator + Copy> Parts<A> {
     {
         let count = changes.len();
         for i in 0..count {
-            let Ok(()) = self.make_at(changes, i) else {
+            let change = changes.at(i);
+            let Ok(()) = self.make(&change) else {
                 for j in (0..i).rev() {
-                    let past = changes.get(j);
+                    let past = changes.at(j);
                     let Ok(()) = self.undo(&past) else {
                         return Err(AllocError);
                     };
@@ -74,10 +71,10 @@ impl<A: Allocator + Copy> Parts<A> {
     {
         let count = changes.len();
         for i in (0..count).rev() {
-            let change = changes.get(i);
+            let change = changes.at(i);
             let Ok(()) = self.undo(&change) else {
                 for j in i + 1..count {
-                    let past = changes.get(j);
+                    let past = changes.at(j);
                     let Ok(()) = self.make(&past) else {
                         return Err(AllocError);
                     };

@@ -8,21 +8,19 @@ use Rattle.nd_steps.proofs.parts.Parts.make_all.Goals as goal
 pub loop-i-init : goal.loop-i-init
 loop-i-init g c = sym (state_none c.args.self.now c.args.changes.now)
 
-pub make_at-requires : goal.make_at-requires
-make_at-requires g c =
-    let s : ClusterState = c.args.self.now in
+pub make-requires : goal.make-requires
+make-requires g c =
     let cs : List Change = c.args.changes.now in
-    let i = c.loop-i.i in
-    let lt : i < length cs = omega (arith, c.loop-i-test.true, c.len-count.ensures) in
-    record { there = lt; fits = fits_now s cs c.requires i (change_at cs i) (same_at cs i _ _ lt) lt c.loop-i.self c.loop-i.invariant }
+    let lt : c.loop-i.i < length cs = omega (arith, c.loop-i-test.true, c.len-count.ensures) in
+    subst (Fits c.loop-i.self) (sym c.deref.ensures) (fits_now c.args.self.now cs c.requires c.loop-i.i (cow_value c.at-change.result) c.at-change.ensures lt c.loop-i.self c.loop-i.invariant)
 
 pub loop-i-preserved : goal.loop-i-preserved
 loop-i-preserved g c =
     let s : ClusterState = c.args.self.now in
     let cs : List Change = c.args.changes.now in
     let lt : c.loop-i.i < length cs = omega (arith, c.loop-i-test.true, c.len-count.ensures) in
-    let i = c.loop-i.i in
-    c.in-Ok.ensures.ok ∙ next_here s cs c.requires i (change_at cs i) (same_at cs i _ _ lt) lt c.loop-i.self c.loop-i.invariant
+    c.in-Ok.ensures.ok ∙ ap (made c.loop-i.self) c.deref.ensures
+    ∙ next_here s cs c.requires c.loop-i.i (cow_value c.at-change.result) c.at-change.ensures lt c.loop-i.self c.loop-i.invariant
 
 pub undo-requires : goal.undo-requires
 undo-requires g c =
@@ -30,7 +28,7 @@ undo-requires g c =
     let cs : List Change = c.args.changes.now in
     let lt : c.loop-j.j - 1 < length cs = omega (arith, c.loop-i-test.true, c.len-count.ensures, c.loop-j.invariant.before, c.loop-j-test.true) in
     let above : c.loop-j.j ≡ c.loop-j.j - 1 + 1 = omega (arith, c.loop-j-test.true) in
-    fits_here s cs c.requires (c.loop-j.j - 1) c.get-past.result c.get-past.ensures lt c.loop-j.self c.loop-j.j above c.loop-j.invariant.now
+    fits_here s cs c.requires (c.loop-j.j - 1) c.at-past.result c.at-past.ensures lt c.loop-j.self c.loop-j.j above c.loop-j.invariant.now
 
 pub loop-j-preserved : goal.loop-j-preserved
 loop-j-preserved g c =
@@ -40,7 +38,7 @@ loop-j-preserved g c =
     let above : c.loop-j.j ≡ c.loop-j.j - 1 + 1 = omega (arith, c.loop-j-test.true) in
     record {
       now = c.in-Ok-undo.ensures.ok
-          ∙ back_here s cs c.requires (c.loop-j.j - 1) c.get-past.result c.get-past.ensures lt c.loop-j.self c.loop-j.j above c.loop-j.invariant.now;
+          ∙ back_here s cs c.requires (c.loop-j.j - 1) c.at-past.result c.at-past.ensures lt c.loop-j.self c.loop-j.j above c.loop-j.invariant.now;
       before = omega (arith, c.loop-j.invariant.before);
     }
 

@@ -17,7 +17,7 @@ undo-requires g c =
     let cs : List Change = c.args.changes.now in
     let lt : c.loop-i.i - 1 < length cs = omega (arith, c.loop-i.invariant.within, c.loop-i-test.true) in
     let above : c.loop-i.i ≡ c.loop-i.i - 1 + 1 = omega (arith, c.loop-i-test.true) in
-    fits_here c.requires.0 cs h.0 (c.loop-i.i - 1) c.get-change.result c.get-change.ensures lt c.loop-i.self c.loop-i.i above (c.loop-i.invariant.now c.requires.0 c.requires.1 h)
+    fits_here c.requires.0 cs h.0 (c.loop-i.i - 1) c.at-change.result c.at-change.ensures lt c.loop-i.self c.loop-i.i above (c.loop-i.invariant.now c.requires.0 c.requires.1 h)
 
 pub loop-i-preserved : goal.loop-i-preserved
 loop-i-preserved g c =
@@ -27,7 +27,7 @@ loop-i-preserved g c =
     record {
       within = omega (arith, c.loop-i.invariant.within);
       now = λ s state h. c.in-Ok.ensures.ok
-          ∙ back_here s cs h.0 (c.loop-i.i - 1) c.get-change.result c.get-change.ensures lt c.loop-i.self c.loop-i.i above (c.loop-i.invariant.now s state h);
+          ∙ back_here s cs h.0 (c.loop-i.i - 1) c.at-change.result c.at-change.ensures lt c.loop-i.self c.loop-i.i above (c.loop-i.invariant.now s state h);
     }
 
 pub make-requires : goal.make-requires
@@ -35,7 +35,7 @@ make-requires g c =
     let h = c.requires.2 in
     let cs : List Change = c.args.changes.now in
     let lt : c.loop-j.j < length cs = omega (arith, c.loop-j-test.true, c.len-count.ensures) in
-    fits_now c.requires.0 cs h.0 c.loop-j.j c.get-past.result c.get-past.ensures lt c.loop-j.self (c.loop-j.invariant.now c.requires.0 c.requires.1 h)
+    fits_now c.requires.0 cs h.0 c.loop-j.j c.at-past.result c.at-past.ensures lt c.loop-j.self (c.loop-j.invariant.now c.requires.0 c.requires.1 h)
 
 pub loop-j-preserved : goal.loop-j-preserved
 loop-j-preserved g c =
@@ -45,7 +45,7 @@ loop-j-preserved g c =
       within = omega (arith, lt);
       past = omega (arith, c.loop-j.invariant.past);
       now = λ s state h. c.in-Ok-make.ensures.ok
-          ∙ next_here s cs h.0 c.loop-j.j c.get-past.result c.get-past.ensures lt c.loop-j.self (c.loop-j.invariant.now s state h);
+          ∙ next_here s cs h.0 c.loop-j.j c.at-past.result c.at-past.ensures lt c.loop-j.self (c.loop-j.invariant.now s state h);
     }
 
 pub returns-in_default-clause-err : goal.returns-in_default-clause-err
