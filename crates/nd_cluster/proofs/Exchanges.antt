@@ -25,14 +25,10 @@ use Rattle.nd_steps.specs.Refused.{LeavesUpright, ReceiveFails}
 use Rattle.nd_steps.specs.Standing.{changed}
 use Rattle.nd_steps.specs.Counted.{SentChanges, ReceivedChanges}
 use Rattle.nd_steps.specs.Stored.{received-front}
-use Rattle.nd_steps.specs.Plans.{LeadsTo}
-use Rattle.nd_steps.specs.declared.change.Change.{Change as Single}
 use Rattle.nd_cluster.specs.Records.{shared, Plans, ComesLast}
-use Rattle.nd_steps.specs.Flows.{flow_changes}
-use Rattle.nd_steps.specs.declared.flow.Flow.{Flow}
-use Rattle.nd_steps.specs.declared.record.Changes.TheVariants.{Each, Flowed, Sent, Received}
-use Rattle.nd_processor.specs.declared.key.ValueAt.{ValueAt}
-use Rattle.nd_cluster.specs.Drafted.{Works, take_of}
+use Rattle.nd_steps.specs.declared.record.Changes.{Changes}
+use Rattle.nd_steps.specs.declared.record.Changes.TheVariants.{Each, Flowed, Fed, Sent, Received}
+use Rattle.nd_cluster.specs.Drafted.{Works, LeadWithin}
 use Rattle.nd_map.specs.Cases.{zero_or_not}
 
 is_part : (c d : DeltaValue) → IsPartOf c d → IsPart c d
@@ -50,22 +46,17 @@ module _ {A : Type 0} (s : ClusterState) where
   none_shared (Broadcast p _) works = absurd works
   none_shared (Receive from to) works = absurd works
 
-  pub work_plans : (x : Step A) (changes : Vec Single A) → Works x → IsEnabled s x → LeadsTo s (stepped s x) changes.items → Plans s x (Each changes)
-  work_plans x changes works may leads =
-      let all : length changes.items + shared s x ≡ changed s (stepped s x) = omega (arith, leads.small, none_shared x works) in
-      record { enabled = may; makes = (leads.runs, leads.arrives); small = all }
+  module _ (x : Step A) (works : Works x) (may : IsEnabled s x) where
+    named_all : (n : ℕ) → n ≡ changed s (stepped s x) → n + shared s x ≡ changed s (stepped s x)
+    named_all n many = let none = none_shared x works in omega (arith, many, none)
 
-  module _ (p : ℕ) (gone : ValueAt) (f : Flow) where
-    take_plans : IsEnabled {A = A} s (take_of p gone) → LeadsTo s (stepped {A = A} s (take_of p gone)) (flow_changes p gone f) → Plans {A = A} s (take_of p gone) (Flowed f)
-    take_plans may leads =
-        let all : length (flow_changes p gone f) + 0 ≡ changed s (stepped {A = A} s (take_of p gone)) = omega (arith, leads.small) in
-        record { enabled = may; makes = (leads.runs, leads.arrives); small = all }
-
-    -- a take whose consequence determines its changes
-    pub flow_plans : (x : Step A) → x ≡ take_of p gone → IsEnabled s x → LeadsTo s (stepped s x) (flow_changes p gone f) → Plans s x (Flowed f)
-    flow_plans x is may leads =
-        subst (λ (y : Step A). Plans s y (Flowed f)) (sym is)
-        (take_plans (subst (IsEnabled s) is may) (subst (λ (y : Step A). LeadsTo s (stepped s y) (flow_changes p gone f)) is leads))
+    -- changes at single keys that lead to the state after the step
+    pub work_plans : (cs : Changes A) → LeadWithin s x cs → Plans s x cs
+    work_plans (Each changes) h = record { enabled = may; makes = (h.leads.runs, h.leads.arrives); small = named_all _ h.leads.small }
+    work_plans (Flowed flow) h = record { enabled = may; makes = (h.leads.runs, h.leads.arrives); small = named_all _ h.leads.small }
+    work_plans (Fed at) h = record { enabled = may; makes = (h.leads.runs, h.leads.arrives); small = named_all _ h.leads.small }
+    work_plans (Sent p part) h = absurd (h.single)
+    work_plans (Received from to change) h = absurd (h.single)
 
 -- ---- a notice
 

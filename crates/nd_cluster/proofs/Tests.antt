@@ -1,7 +1,5 @@
 -- What the tests of a plan say together: that a step is enabled, or because of which limit or later test it is refused.
 use Rattle.std.proofs.Common.{◌≡◌, ◌≢◌, ◌<◌, ℕ, ℤ, refl, sym, subst, arith}
-use Rattle.nd_time.specs.Time.{Time}
-use Rattle.nd_processor.specs.declared.key.ValueAt.{ValueAt}
 use Rattle.nd_protocol.specs.State.{ClusterState}
 use Rattle.nd_protocol.specs.Steps.{stepped}
 use Rattle.nd_protocol.specs.Enabled.{HasLargeCount, HasLargeEntry, Fails, IsEnabled, IsFreeBelow, IsRefused}
@@ -12,7 +10,7 @@ use Rattle.nd_protocol.specs.declared.step.Step.TheVariants.{Feed, Take, Notice,
 use Rattle.nd_protocol.specs.declared.refusal.Refusal.{Refusal}
 use Rattle.nd_protocol.specs.declared.refusal.Refusal.TheVariants.{CountFull, DeltaFull, NothingToSend, NotAdmissible, QueueEmpty, QueueFull, NotNotified, NotLater, NoPort, TooEarly, Memory}
 use Rattle.nd_steps.specs.Limits.{LimitFails}
-use Rattle.nd_cluster.specs.Drafted.{Works, take_of, PassesLast, FailsLast}
+use Rattle.nd_cluster.specs.Drafted.{Works, PassesLast, FailsLast}
 
 module _ {A : Type 0} (s : ClusterState) where
   large_count : (x : Step A) → Works x → Fails s x CountFull → HasLargeCount (stepped s x)
@@ -50,25 +48,6 @@ module _ {A : Type 0} (s : ClusterState) where
   entry_fails (Send p vertex batch) works h = h
   entry_fails (Broadcast p _) works h = absurd works
   entry_fails (Receive from to) works h = absurd works
-
-  -- no refusal that is tested after the limits applies to a take
-  take_passes : (p edge : ℕ) (t : Time) (value : ℤ) → PassesLast {A = A} s (Take p edge t value)
-  take_passes p edge t value = record { free = by; admissible = tt }
-    where
-      by : (r : Refusal) → 14 < number_of r → Fails {A = A} s (Take p edge t value) r → ⊥
-      by NothingToSend lt h = h
-      by (NotAdmissible point) lt h = h
-      by QueueEmpty lt h = h
-      by QueueFull lt h = h
-      by NotNotified lt h = h
-      by NotLater lt h = h
-      by NoPort lt h = h
-      by TooEarly lt h = h
-      by Memory lt h = h
-      by r lt h = absurd (omega (arith, lt))
-
-  pub record_passes : (p : ℕ) (gone : ValueAt) (x : Step A) → x ≡ take_of p gone → PassesLast s x
-  record_passes p gone x is = subst (λ (y : Step A). PassesLast s y) (sym is) (take_passes p gone.point.location gone.point.time gone.value)
 
   module _ (x : Step A) (works : Works x) (free : IsFreeBelow s x 13) where
     -- a refusal because of the limit of counts has the least number

@@ -5,16 +5,19 @@ use Rattle.nd_paths.specs.declared.point.Pointstamp.{Pointstamp}
 use Rattle.nd_processor.specs.declared.key.ValueAt.{ValueAt}
 use Rattle.nd_protocol.specs.State.{ClusterState}
 use Rattle.nd_protocol.specs.Steps.{stepped}
-use Rattle.nd_protocol.specs.Enabled.{Fails, IsAdmissible, IsFreeBelow}
+use Rattle.nd_protocol.specs.Enabled.{HasLargeCount, HasLargeEntry, Fails, IsAdmissible, IsFreeBelow}
 use Rattle.nd_protocol.specs.Refusals.{number_of}
 use Rattle.nd_protocol.specs.declared.refusal.Refusal.{Refusal}
 use Rattle.nd_protocol.specs.declared.step.Step.{Step}
 use Rattle.nd_protocol.specs.declared.step.Step.TheVariants.{Feed, Take, Notice, Release, Send, Broadcast, Receive}
 use Rattle.nd_steps.specs.declared.change.Change.{Change}
-use Rattle.nd_steps.specs.Plans.{Reaches}
+use Rattle.nd_steps.specs.Plans.{Reaches, LeadsTo}
 use Rattle.nd_steps.specs.Flows.{come_changes}
+use Rattle.nd_steps.specs.Fed.{fed_changes, IsEarly}
+use Rattle.nd_steps.specs.Records.{keyed, IsKeyed}
+use Rattle.nd_steps.specs.declared.record.Changes.{Changes}
 use Rattle.nd_cluster.specs.declared.work.Drafted.{Drafted}
-use Rattle.nd_cluster.specs.declared.work.Drafted.TheVariants.{Each, Flow}
+use Rattle.nd_cluster.specs.declared.work.Drafted.TheVariants.{Each, Fed, Flow}
 
 -- a feed, a take, a notice, a release or a send: the step changes records and capabilities, and others hear of
 -- it through what is unsent
@@ -43,10 +46,18 @@ LeadOn A s x changes = Reaches s (stepped s x) changes
 abbrev pub IsWithinRules : (A : Type 0) → ClusterState → Step A → Type 0
 IsWithinRules A s x = IsFreeBelow s x 13
 
--- the draft has the changes of the step; only the draft of a take can be a flow
+-- the draft has the changes of the step; only the draft of a take can be a flow, and only that of a feed can be without a list
 abbrev pub IsDraft : {A : Type 0} → ClusterState → Step A → Drafted A → Type 0
 IsDraft {A} s x (Each all) = LeadOn A s x all.items
+IsDraft {A} s x (Fed at) = IsEarly at × LeadOn A s x (fed_changes x at)
 IsDraft s x (Flow p gone come) = (x ≡ take_of p gone) × Reaches s (stepped s x) (come_changes p gone come)
+
+-- the changes at single keys lead to the state after the step, which exceeds no limit
+pub record LeadWithin {A : Type 0} (s : ClusterState) (x : Step A) (cs : Changes A) : Type 0 where
+  pub single : IsKeyed cs
+  pub leads : LeadsTo s (stepped s x) (keyed x cs)
+  pub counts : HasLargeCount (stepped s x) → ⊥
+  pub entries : HasLargeEntry (stepped s x) → ⊥
 
 -- ---- what is tested after the limits
 

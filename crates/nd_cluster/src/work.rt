@@ -7,7 +7,7 @@ ghost use Rattle.nd_protocol.specs.Fitting.{IsState};
 ghost use Rattle.nd_protocol.specs.Enabled.{IsRefused, MayWantMemory};
 ghost use Rattle.nd_steps.specs.Drafts.{ReleasesSo};
 ghost use Rattle.nd_cluster.specs.Records.{Plans};
-ghost use Rattle.nd_cluster.specs.Drafted.{Works, take_of, notice_of, LeadOn, IsWithinRules, IsDraft};
+ghost use Rattle.nd_cluster.specs.Drafted.{Works, take_of, notice_of, LeadOn, IsWithinRules, IsDraft, LeadWithin};
 ghost use Rattle.nd_protocol.specs.declared.step.Step.TheVariants.{Feed as Feeding, Release as Releasing, Send as Posting};
 ghost use Rattle.nd_protocol.specs.declared.refusal.Refusal.TheVariants.{Memory};
 
@@ -16,8 +16,9 @@ use nd_paths::Pointstamp;
 use nd_processor::ValueAt;
 use nd_protocol::{Batch, Times};
 use nd_steps::{
-    Come, Fed, Performer, Taken, feed_changes, notice_changes, ordered_flow, planned_changes,
-    post_changes, record_at, release_changes, take_changes, take_flow,
+    Come, Fed, FedAt, Performer, Taken, feed_at, feed_changes, notice_changes, ordered_feed,
+    ordered_flow, planned_changes, post_changes, record_at, release_changes, take_changes,
+    take_flow,
 };
 use std::alloc::Allocator;
 
@@ -25,6 +26,8 @@ use std::alloc::Allocator;
 #[derive(Drop)]
 pub(crate) enum Drafted<A: Allocator + Copy> {
     Each(Vec<Change, A>),
+    // Where the records of a feed arrive in order, and where its token moves.
+    Fed(FedAt),
     // The consequence of processor p's take of a record: nothing else changes.
     Flow { p: u32, gone: ValueAt, come: Come },
 }
@@ -39,16 +42,15 @@ impl<A: Allocator + Copy> Cluster<A> {
         self.n() as u32
     }
 
-    // Returns what a feed changes, or why the feed is refused, apart from the limits.
+    // Returns what a feed changes, or why the feed is refused, apart from the limits. If its values arrive in order, returns where.
     fn feed_parts(
         &self,
         p: u32,
         vertex: usize,
         values: &[i64],
         next: Next,
-    ) -> Result<Vec<Change, A>, Refusal>
-        ensures reaches { IfOk result (λ v.
-            LeadOn A self.now (Feeding p vertex values.now next) v.items) }
+    ) -> Result<Drafted<A>, Refusal>
+        ensures drafted { IfOk result (IsDraft self.now (Feeding p vertex values.now next)) }
         ensures free { OnOk result (IsWithinRules A self.now (Feeding p vertex values.now next)) }
         ensures refused { IfErr result (λ r. r ≢ Memory
             → IsRefused {A = A} self.now (Feeding p vertex values.now next) r) }
@@ -69,10 +71,13 @@ impl<A: Allocator + Copy> Cluster<A> {
             values,
             next,
         };
+        if let Some(at) = feed_at::<A, A>(&by, &fed) {
+            return Ok(Drafted::Fed(at));
+        }
         let Ok(all) = feed_changes(self.alloc, &by, &fed) else {
             return Err(Refusal::Memory);
         };
-        Ok(all)
+        Ok(Drafted::Each(all))
     }
 
     // Returns what a take changes, or why the take is refused, apart from the limits. If little of the take must be kept,
@@ -216,10 +221,7 @@ impl<A: Allocator + Copy> Cluster<A> {
                 vertex,
                 values,
                 next,
-            } => {
-                let all = self.feed_parts(*p, *vertex, values.as_slice(), *next)?;
-                Ok(Drafted::Each(all))
-            }
+            } => self.feed_parts(*p, *vertex, values.as_slice(), *next),
             Step::Take {
                 p,
                 edge,
@@ -249,6 +251,24 @@ impl<A: Allocator + Copy> Cluster<A> {
         }
     }
 
+    // Returns the changes in the order in which they are applied, or the limit because of which the step is refused.
+    fn ordered(&self, step: &Step<A>, drafted: Drafted<A>) -> Result<Changes<A>, Refusal>
+        requires works { Works step.now }
+        requires drafted { IsDraft self.now step.now drafted }
+        requires free { IsWithinRules A self.now step.now }
+        ensures ok { IfOk result (LeadWithin self.now step.now) }
+        ensures refused { IfErr result (λ r. r ≢ Memory → IsRefused self.now step.now r) }
+    {
+        let processors = self.processors();
+        match drafted {
+            Drafted::Each(all) => Ok(Changes::Each(planned_changes(processors, all)?)),
+            Drafted::Fed(at) => Ok(Changes::Fed(ordered_feed(processors, step, at)?)),
+            Drafted::Flow { p, gone, come } => {
+                Ok(Changes::Flowed(ordered_flow(processors, p, &gone, come)?))
+            }
+        }
+    }
+
     // Returns the changes of a feed, a take, a notice, a release or a send, in the order in which they are applied; or why the
     // step is refused.
     pub(crate) fn work_changes(&self, step: &Step<A>) -> Result<Changes<A>, Refusal>
@@ -259,18 +279,11 @@ impl<A: Allocator + Copy> Cluster<A> {
     {
         let _ = self.processor_count();
         step.numbers_fit();
-        match self.drafted(step)? {
-            Drafted::Each(all) => {
-                let changes = planned_changes(self.processors(), all)?;
-                if let Some(refusal) = self.last_refusal(step) {
-                    return Err(refusal);
-                }
-                Ok(Changes::Each(changes))
-            }
-            Drafted::Flow { p, gone, come } => {
-                let flow = ordered_flow(self.processors(), p, &gone, come)?;
-                Ok(Changes::Flowed(flow))
-            }
+        let drafted = self.drafted(step)?;
+        let changes = self.ordered(step, drafted)?;
+        if let Some(refusal) = self.last_refusal(step) {
+            return Err(refusal);
         }
+        Ok(changes)
     }
 }

@@ -129,12 +129,12 @@ static FEEDS: [(&'static [i64], Next, bool); 10] = [
     (&[7], Next::Close, false),
 ];
 
-/// Returns whether the small record of a feed of *line*, after another, has no list.
+/// Returns whether the record of a feed of *line*, after another, has no list.
 fn keeps_no_list(alloc: Global, before: Next, values: &'static [i64], next: Next) -> Option<bool> {
     let before = [Told::Feed(0, "a", &[7], before)];
     let cluster = reach(alloc, alloc, LINE, 1, &before)?;
     let step = step_of(alloc, cluster.graph(), &Told::Feed(0, "a", values, next))?;
-    let record = cluster.plan(&step).ok()?.small();
+    let record = cluster.plan(&step).ok()?;
     Some(matches!(record.changes, Changes::Fed(_)))
 }
 

@@ -11,10 +11,7 @@ use Rattle.nd_protocol.specs.Fitting.{IsState}
 use Rattle.nd_protocol.specs.declared.step.Step.{Step}
 use Rattle.nd_protocol.specs.declared.step.Step.TheVariants.{Feed, Take, Notice, Release, Send, Broadcast, Receive}
 use Rattle.nd_steps.specs.declared.record.Record.{Record}
-use Rattle.nd_protocol.specs.Enabled.{IsEnabled}
-use Rattle.nd_steps.specs.Standing.{changed}
-use Rattle.nd_steps.specs.Records.{named, Makes, MakesWhat}
-use Rattle.nd_cluster.specs.Records.{IsPlanned, shared}
+use Rattle.nd_cluster.specs.Records.{IsPlanned}
 use Rattle.nd_cluster.specs.Saved.{IsSaved}
 use Rattle.nd_breaks.specs.Conditions.{Holds}
 use Rattle.nd_reach.specs.Forms.{form, FormsTellStates}
@@ -298,12 +295,3 @@ module _ {A : Type 0} (q : Wanted) (node : Node A) (made : node.made ≡ None) (
   begun forms nodes false there back some f m =
       let on : HasSearched q (form q.start ∷ []) (node ∷ []) 0 = start_searched some (λ holds. absurd (cc (back holds))) in
       subst (λ fs. HasSearched q fs nodes 0) (sym f) (subst (λ ns. HasSearched q (form q.start ∷ []) ns 0) (sym m) on)
-
--- the same record in fewer words
-pub small_planned : {A : Type 0} (r q : Record A) (t : ClusterState) → IsPlanned r t → q.step ≡ r.step → named q ≡ named r → MakesWhat r q → IsPlanned q t
-small_planned r q t planned step many makes = record {
-  state = planned.state;
-  enabled = subst (IsEnabled t) (sym step) planned.enabled;
-  makes = subst (λ x. Makes t q (stepped t x)) (sym step) (makes t (stepped t r.step) planned.makes);
-  small = subst (λ x. named q + shared t x ≡ changed t (stepped t x)) (sym step) (subst (λ n. n + shared t r.step ≡ changed t (stepped t r.step)) (sym many) planned.small);
-}

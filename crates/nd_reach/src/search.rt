@@ -91,7 +91,7 @@ impl<'a, A: Allocator + Copy> Question<'a, A> {
         let saved = self.saved(walker, moves)?;
         let holds = self.when.holds(walker);
         walker.back(&made)?;
-        let node = Node::new(at, made.small(), moves, saved);
+        let node = Node::new(at, made, moves, saved);
         found.add(self.alloc, node)?;
         if holds { Ok(Some(End::Hit)) } else { Ok(None) }
     }

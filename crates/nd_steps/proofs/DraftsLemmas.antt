@@ -78,11 +78,11 @@ absent c d (e ∷ es) less h =
 abbrev counted : Bool → ℕ
 counted b = cond b 1 0
 
-one_or_none : (b : Bool) → cond b 1 0 ≤ 1
+pub one_or_none : (b : Bool) → cond b 1 0 ≤ 1
 one_or_none true = omega arith
 one_or_none false = omega arith
 
-some_often : (k : Place) (c : Change) → often k (some_of c) ≤ cond (is_place k (place_of c)) 1 0
+pub some_often : (k : Place) (c : Change) → often k (some_of c) ≤ cond (is_place k (place_of c)) 1 0
 some_often k c = elim (is_zero c.n) as (λ b. often k (cond b [] (c ∷ [])) ≤ cond (is_place k (place_of c)) 1 0) [
   | true ↦ omega arith
   | false ↦ omega arith
@@ -132,7 +132,7 @@ none_either : (b : Bool) → pos 0 ≡ cond b (pos 0) (pos 0)
 none_either true = refl
 none_either false = refl
 
-some_total : (k : Place) (c : Change) → total_at k (some_of c) ≡ cond (is_place k (place_of c)) c.n (pos 0)
+pub some_total : (k : Place) (c : Change) → total_at k (some_of c) ≡ cond (is_place k (place_of c)) c.n (pos 0)
 some_total k c = elim (is_zero c.n) as (λ b. is_zero c.n ≡ b → total_at k (cond b [] (c ∷ [])) ≡ cond (is_place k (place_of c)) c.n (pos 0)) [
   | true ↦ λ z. none_either (is_place k (place_of c)) ∙ ap (λ n. cond (is_place k (place_of c)) n (pos 0)) (sym (zero_is c.n z))
   | false ↦ λ z. plus_none (cond (is_place k (place_of c)) c.n (pos 0))
@@ -160,7 +160,7 @@ joins_total k c (d ∷ ds) =
 abbrev Adds : Change → Type 0
 Adds c = c.n ≢ pos 0
 
-some_some : (c : Change) → Each Adds (some_of c)
+pub some_some : (c : Change) → Each Adds (some_of c)
 some_some c = elim (is_zero c.n) as (λ b. is_zero c.n ≡ b → Each Adds (cond b [] (c ∷ []))) [
   | true ↦ λ z. tt
   | false ↦ λ z. ((λ is. true≢false (sym (ap is_zero is) ∙ z)), tt)

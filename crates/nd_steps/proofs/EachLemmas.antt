@@ -41,6 +41,11 @@ pub each-append : (P : Change → Type 0) (cs ds : List Change) → Each P cs �
 each-append P [] ds h i = i
 each-append P (c ∷ cs) ds h i = (h.0, each-append P cs ds h.1 i)
 
+-- what holds of each of both holds of each of the second
+pub each_right : (P : Change → Type 0) (cs ds : List Change) → Each P (cs ++ ds) → Each P ds
+each_right P [] ds h = h
+each_right P (c ∷ cs) ds h = each_right P cs ds h.1
+
 -- ---- every change of a list
 
 pub each_at : (P : Change → Type 0) (cs : List Change) (k : ℕ) (d : Change) → Each P cs → k < length cs → P (get_or cs k d)

@@ -40,10 +40,10 @@ reached ps s t p gone come late h = (h.0, reaches_moved s t (come_changes p gone
 
 -- ---- after the first changes the integer at the place is not 0; before the others it is not 0
 
-abbrev leaves : ClusterState → Change → Type 0
+abbrev pub leaves : ClusterState → Change → Type 0
 leaves s c = standing s (place_of c) +ℤ c.n ≢ pos 0
 
-leads_split : (s t : ClusterState) (front tail : List Change) → Reaches s t (front ++ tail) → Each (CountStays s.processors) (front ++ tail) → Each (EntryStays s.processors) (front ++ tail)
+pub leads_split : (s t : ClusterState) (front tail : List Change) → Reaches s t (front ++ tail) → Each (CountStays s.processors) (front ++ tail) → Each (EntryStays s.processors) (front ++ tail)
     → Each (leaves s) front → Each (Finds s) tail → LeadsTo s t (front ++ tail)
 leads_split s t front tail h counts entries leave find =
     planned_so s t (front ++ tail) h counts entries (length front)
@@ -56,10 +56,10 @@ leads_split s t front tail h counts entries leave find =
 one_less : (x y : ℤ) (n : ℕ) → y ≡ x +ℤ negsuc 0 → y ≡ pos n → x ≢ pos 0
 one_less x y n e f z = absurd (omega (arith, ints, e, f, z))
 
-one_more : (x : ℤ) (n : ℕ) → x ≡ pos n → x +ℤ pos 1 ≢ pos 0
+pub one_more : (x : ℤ) (n : ℕ) → x ≡ pos n → x +ℤ pos 1 ≢ pos 0
 one_more x n e z = absurd (omega (arith, ints, e, z))
 
-last_of : (x n : ℤ) → n ≢ pos 0 → x +ℤ n ≡ pos 0 → x ≢ pos 0
+pub last_of : (x n : ℤ) → n ≢ pos 0 → x +ℤ n ≡ pos 0 → x ≢ pos 0
 last_of x n some e z = some (omega (arith, ints, e, z))
 
 leads_late : (s t : ClusterState) (p : ℕ) (gone : ValueAt) (come : Come) → Reaches s t (flow_changes p gone (record { come = come; late = true }))

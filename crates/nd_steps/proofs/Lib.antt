@@ -24,6 +24,8 @@ pub mod StepMoves
 pub mod Takes
 pub mod ItemsLemmas
 pub mod OnwardLemmas
+pub mod InOrderLemmas
+pub mod FedLemmas
 pub mod ReachedLemmas
 pub mod CountsReceived
 pub mod Ends

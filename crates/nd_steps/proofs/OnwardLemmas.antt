@@ -105,7 +105,7 @@ only_one (x ∷ y ∷ ys) e some few is = absurd (omega (arith, few))
 
 -- ---- no place occurs twice
 
-once_before : (c : Change) (cs : List Change) → often (place_of c) cs ≡ 0 → Once cs → Once (c ∷ cs)
+pub once_before : (c : Change) (cs : List Change) → often (place_of c) cs ≡ 0 → Once cs → Once (c ∷ cs)
 once_before c cs none once k =
     elim (is_place k (place_of c)) as (λ b. is_place k (place_of c) ≡ b → cond b 1 0 + often k cs ≤ 1) [
       | true ↦ λ t. let z : often k cs ≡ 0 = ap (λ q. often q cs) (same_place k (place_of c) t) ∙ none in omega (arith, z)

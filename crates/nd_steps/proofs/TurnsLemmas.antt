@@ -22,126 +22,45 @@ use Rattle.nd_steps.proofs.EachLemmas.{each_at, each_from}
 abbrev pub Below : (Change → Type 0) → List Change → ℕ → Type 0
 Below P all i = (k : ℕ) (d : Change) → k < i → P (get_or all k d)
 
--- the first i changes of all are in order in the second list; the others are unchanged
-pub record IsPutInOrder (ps : List ProcessorState) (all cs : List Change) (turn i : ℕ) (counts entries : Bool) : Type 0 where
-  pub same : IsPermutation all cs
-  pub behind : turn ≤ i
+-- whether each of the first i changes stays within the limits of counts and of entries
+pub record AreTested (ps : List ProcessorState) (all : List Change) (i : ℕ) (counts entries : Bool) : Type 0 where
   pub within : i ≤ length all
-  pub leaves : (k : ℕ) (d : Change) → k < turn → after ps (get_or cs k d) ≢ pos 0
-  pub goes : (k : ℕ) (d : Change) → turn ≤ k → k < i → after ps (get_or cs k d) ≡ pos 0
-  pub rest : (k : ℕ) (d : Change) → i ≤ k → get_or cs k d ≡ get_or all k d
   pub counts_stay : IsTrue counts ↔ Below (CountStays ps) all i
   pub entries_stay : IsTrue entries ↔ Below (EntryStays ps) all i
 
 none_below : (P : Change → Type 0) (all : List Change) → IsTrue true ↔ Below P all 0
 none_below P all = (λ t k d lt. absurd (omega (arith, lt)), λ h. refl)
 
-pub none_yet : (ps : List ProcessorState) (all : List Change) → IsPutInOrder ps all all 0 0 true true
-none_yet ps all = record {
-  same = IsPermutation-refl all;
-  behind = omega arith;
-  within = omega arith;
-  leaves = λ k d lt. absurd (omega (arith, lt));
-  goes = λ k d past lt. absurd (omega (arith, lt));
-  rest = λ k d past. refl;
-  counts_stay = none_below (CountStays ps) all;
-  entries_stay = none_below (EntryStays ps) all;
-}
-
--- after i changes: whether the first change leaves an integer that is not 0, false before any
-pub record IsSeenFirst (ps : List ProcessorState) (all : List Change) (i : ℕ) (first : Bool) : Type 0 where
-  pub none : i ≡ 0 → first ≡ false
-  pub known : (d : Change) → 0 < i → IsTrue first ↔ (after ps (get_or all 0 d) ≢ pos 0)
-
-pub unseen : (ps : List ProcessorState) (all : List Change) → IsSeenFirst ps all 0 false
-unseen ps all = record { none = λ _. refl; known = λ d lt. absurd (omega (arith, lt)) }
-
--- ---- one more
+pub untested : (ps : List ProcessorState) (all : List Change) → AreTested ps all 0 true true
+untested ps all = record { within = omega arith; counts_stay = none_below (CountStays ps) all; entries_stay = none_below (EntryStays ps) all }
 
 both_true : (a b : Bool) (P Q : Type 0) → (IsTrue a ↔ P) → (IsTrue b ↔ Q) → IsTrue (a && b) ↔ (P × Q)
 both_true true b P Q h g = (λ t. (h.0 refl, g.0 t), λ t. g.1 t.1)
 both_true false b P Q h g = (λ t. absurd (cc (t)), λ t. absurd (cc (h.1 t.0)))
 
-module _ (ps : List ProcessorState) (all cs : List Change) (turn i : ℕ) (counts entries : Bool) (h : IsPutInOrder ps all cs turn i counts entries) (lt : i < length all)
-    (e : Change) (count entry : Bool) (count_is : IsTrue count ↔ CountStays ps (get_or cs i e)) (entry_is : IsTrue entry ↔ EntryStays ps (get_or cs i e)) where
-  abbrev x : Change
-  x = get_or cs i e
-
-  of_all : (d : Change) → get_or all i d ≡ x
-  of_all d = get_or_default all i d e lt ∙ sym (h.rest i e (omega arith))
-
-  here : (d : Change) → get_or cs i d ≡ x
-  here d = h.rest i d (omega arith) ∙ of_all d
-
-  below_more : (P : Change → Type 0) (a b : Bool) → (IsTrue a ↔ Below P all i) → (IsTrue b ↔ P x) → IsTrue (a && b) ↔ Below P all (i + 1)
+-- one more change, c, is tested
+module _ (ps : List ProcessorState) (all : List Change) (i : ℕ) (lt : i < length all) (c : Change) (is : c ≡ get_or all i c) where
+  below_more : (P : Change → Type 0) (a b : Bool) → (IsTrue a ↔ Below P all i) → (IsTrue b ↔ P c) → IsTrue (a && b) ↔ Below P all (i + 1)
   below_more P a b so more =
-      let both = both_true a b (Below P all i) (P x) so more in (
+      let both = both_true a b (Below P all i) (P c) so more in
+      let here : (d : Change) → get_or all i d ≡ c = λ d. get_or_default all i d c lt ∙ sym is in (
         λ t k d less. elim (cases_eq k i) [
-          | inl e ↦ subst P (sym (ap (λ j. get_or all j d) e ∙ of_all d)) (both.0 t).1
+          | inl e ↦ subst P (sym (ap (λ j. get_or all j d) e ∙ here d)) (both.0 t).1
           | inr n ↦ (both.0 t).0 k d (omega (arith, less, n))
         ],
-        λ each. both.1 ((λ k d less. each k d (omega (arith, less))), subst P (of_all x) (each i x (omega arith))),
+        λ each. both.1 ((λ k d less. each k d (omega (arith, less))), subst P (here c) (each i c (omega arith))),
       )
 
-  -- the integer after the change is 0, and the change stays in its position
-  nothing : (after ps x ≢ pos 0 → ⊥) → after ps x ≡ pos 0
-  nothing not = elim (zero_or_not (after ps x)) [ inl none ↦ none | inr some ↦ absurd (not some) ]
-
-  pub one_goes : (after ps x ≢ pos 0 → ⊥) → IsPutInOrder ps all cs turn (i + 1) (counts && count) (entries && entry)
-  one_goes not = record {
-    same = h.same;
-    behind = (let b = h.behind in omega (arith, b));
+  pub test_more : (counts entries count entry : Bool) → AreTested ps all i counts entries → (IsTrue count ↔ CountStays ps c) → (IsTrue entry ↔ EntryStays ps c)
+      → AreTested ps all (i + 1) (counts && count) (entries && entry)
+  test_more counts entries count entry h count_is entry_is = record {
     within = omega (arith, lt);
-    leaves = h.leaves;
-    goes = λ k d past less. elim (cases_eq k i) [
-      | inl e ↦ ap (after ps) (ap (λ j. get_or cs j d) e ∙ here d) ∙ nothing not
-      | inr n ↦ h.goes k d past (omega (arith, less, n))
-    ];
-    rest = λ k d past. h.rest k d (omega (arith, past));
     counts_stay = below_more (CountStays ps) counts count h.counts_stay count_is;
     entries_stay = below_more (EntryStays ps) entries entry h.entries_stay entry_is;
   }
 
-  -- the integer after the change is not 0, and the change swaps places with the first for which it is 0
-  module _ (some : after ps x ≢ pos 0) (ds : List Change) (moved : IsPermutation cs ds) (swapped : ds ≡ edits.swap cs turn i) where
-    in_range : i < length cs
-    in_range = let e = length_permutation all cs h.same in omega (arith, lt, e)
-
-    turned : (d : Change) → Swapped (λ k. get_or cs k d) (λ k. get_or ds k d) turn i
-    turned d = let b = h.behind in let r = in_range in swapped_from_swap cs ds turn i d (omega (arith, b, r)) r swapped
-
-    stays_put : (k : ℕ) (d : Change) → k ≢ turn → k ≢ i → get_or ds k d ≡ get_or cs k d
-    stays_put k d a b = (turned d).2 k a b
-
-    pub one_leaves : IsPutInOrder ps all ds (turn + 1) (i + 1) (counts && count) (entries && entry)
-    one_leaves = record {
-      same = IsPermutation-trans all cs ds h.same moved;
-      behind = (let b = h.behind in omega (arith, b));
-      within = omega (arith, lt);
-      leaves = λ k d less. elim (cases_eq k turn) [
-        | inl e ↦ λ none. some (ap (after ps) (sym (ap (λ j. get_or ds j d) e ∙ (turned d).0 ∙ here d)) ∙ none)
-        | inr n ↦
-            let b = h.behind in
-            let before : k < turn = omega (arith, less, n) in
-            λ none. h.leaves k d before (ap (after ps) (sym (stays_put k d n (λ e. omega (arith, e, b, before)))) ∙ none)
-      ];
-      goes = λ k d past less. elim (cases_eq k i) [
-        | inl e ↦ ap (after ps) (ap (λ j. get_or ds j d) e ∙ (turned d).1) ∙ h.goes turn d (omega arith) (omega (arith, past, e))
-        | inr n ↦ ap (after ps) (stays_put k d (λ e. omega (arith, e, past)) n) ∙ h.goes k d (omega (arith, past)) (omega (arith, less, n))
-      ];
-      rest = λ k d past. let b = h.behind in stays_put k d (λ e. omega (arith, e, past, b)) (λ e. omega (arith, e, past)) ∙ h.rest k d (omega (arith, past));
-      counts_stay = below_more (CountStays ps) counts count h.counts_stay count_is;
-      entries_stay = below_more (EntryStays ps) entries entry h.entries_stay entry_is;
-    }
-
--- ---- all
-
-module _ {ps : List ProcessorState} {all cs : List Change} {turn i : ℕ} {counts entries : Bool} (h : IsPutInOrder ps all cs turn i counts entries) (past : length all ≤ i) where
-  pub in_order : IsInOrder ps all cs
-  in_order =
-      let e = length_permutation all cs h.same in
-      record { same = h.same; turn = turn; leaves = λ k d lt first. h.leaves k d first; goes = λ k d lt late. h.goes k d late (omega (arith, lt, past, e)) }
-
+-- all changes are tested
+module _ {ps : List ProcessorState} {all : List Change} {i : ℕ} {counts entries : Bool} (h : AreTested ps all i counts entries) (past : length all ≤ i) where
   each_below : (P : Change → Type 0) (b : Bool) → (IsTrue b ↔ Below P all i) → IsTrue b ↔ Each P all
   each_below P b is = (
     λ t. each_from P all (λ k d lt. is.0 t k d (omega (arith, lt, past))),
@@ -159,6 +78,104 @@ module _ {ps : List ProcessorState} {all cs : List Change} {turn i : ℕ} {count
 
   pub entry_fails : counts ≡ true → entries ≡ false → StayFails ps all DeltaFull
   entry_fails e f = (all_few e, λ each. (let t = (each_below (EntryStays ps) entries h.entries_stay).1 each in absurd (cc (t, f))))
+
+-- the first i changes of all are in order in the second list; the others are unchanged
+pub record IsPutInOrder (ps : List ProcessorState) (all cs : List Change) (turn i : ℕ) (counts entries : Bool) : Type 0 where
+  pub same : IsPermutation all cs
+  pub behind : turn ≤ i
+  pub leaves : (k : ℕ) (d : Change) → k < turn → after ps (get_or cs k d) ≢ pos 0
+  pub goes : (k : ℕ) (d : Change) → turn ≤ k → k < i → after ps (get_or cs k d) ≡ pos 0
+  pub rest : (k : ℕ) (d : Change) → i ≤ k → get_or cs k d ≡ get_or all k d
+  pub tested : AreTested ps all i counts entries
+
+pub none_yet : (ps : List ProcessorState) (all : List Change) → IsPutInOrder ps all all 0 0 true true
+none_yet ps all = record {
+  same = IsPermutation-refl all;
+  behind = omega arith;
+  leaves = λ k d lt. absurd (omega (arith, lt));
+  goes = λ k d past lt. absurd (omega (arith, lt));
+  rest = λ k d past. refl;
+  tested = untested ps all;
+}
+
+-- after i changes: whether the first change leaves an integer that is not 0, false before any
+pub record IsSeenFirst (ps : List ProcessorState) (all : List Change) (i : ℕ) (first : Bool) : Type 0 where
+  pub none : i ≡ 0 → first ≡ false
+  pub known : (d : Change) → 0 < i → IsTrue first ↔ (after ps (get_or all 0 d) ≢ pos 0)
+
+pub unseen : (ps : List ProcessorState) (all : List Change) → IsSeenFirst ps all 0 false
+unseen ps all = record { none = λ _. refl; known = λ d lt. absurd (omega (arith, lt)) }
+
+-- ---- one more
+
+module _ (ps : List ProcessorState) (all cs : List Change) (turn i : ℕ) (counts entries : Bool) (h : IsPutInOrder ps all cs turn i counts entries) (lt : i < length all)
+    (e : Change) (count entry : Bool) (count_is : IsTrue count ↔ CountStays ps (get_or cs i e)) (entry_is : IsTrue entry ↔ EntryStays ps (get_or cs i e)) where
+  abbrev x : Change
+  x = get_or cs i e
+
+  of_all : (d : Change) → get_or all i d ≡ x
+  of_all d = get_or_default all i d e lt ∙ sym (h.rest i e (omega arith))
+
+  here : (d : Change) → get_or cs i d ≡ x
+  here d = h.rest i d (omega arith) ∙ of_all d
+
+  tested_more : AreTested ps all (i + 1) (counts && count) (entries && entry)
+  tested_more = test_more ps all i lt x (sym (of_all x)) counts entries count entry h.tested count_is entry_is
+
+  -- the integer after the change is 0, and the change stays in its position
+  nothing : (after ps x ≢ pos 0 → ⊥) → after ps x ≡ pos 0
+  nothing not = elim (zero_or_not (after ps x)) [ inl none ↦ none | inr some ↦ absurd (not some) ]
+
+  pub one_goes : (after ps x ≢ pos 0 → ⊥) → IsPutInOrder ps all cs turn (i + 1) (counts && count) (entries && entry)
+  one_goes not = record {
+    same = h.same;
+    behind = (let b = h.behind in omega (arith, b));
+    leaves = h.leaves;
+    goes = λ k d past less. elim (cases_eq k i) [
+      | inl e ↦ ap (after ps) (ap (λ j. get_or cs j d) e ∙ here d) ∙ nothing not
+      | inr n ↦ h.goes k d past (omega (arith, less, n))
+    ];
+    rest = λ k d past. h.rest k d (omega (arith, past));
+    tested = tested_more;
+  }
+
+  -- the integer after the change is not 0, and the change swaps places with the first for which it is 0
+  module _ (some : after ps x ≢ pos 0) (ds : List Change) (moved : IsPermutation cs ds) (swapped : ds ≡ edits.swap cs turn i) where
+    in_range : i < length cs
+    in_range = let e = length_permutation all cs h.same in omega (arith, lt, e)
+
+    turned : (d : Change) → Swapped (λ k. get_or cs k d) (λ k. get_or ds k d) turn i
+    turned d = let b = h.behind in let r = in_range in swapped_from_swap cs ds turn i d (omega (arith, b, r)) r swapped
+
+    stays_put : (k : ℕ) (d : Change) → k ≢ turn → k ≢ i → get_or ds k d ≡ get_or cs k d
+    stays_put k d a b = (turned d).2 k a b
+
+    pub one_leaves : IsPutInOrder ps all ds (turn + 1) (i + 1) (counts && count) (entries && entry)
+    one_leaves = record {
+      same = IsPermutation-trans all cs ds h.same moved;
+      behind = (let b = h.behind in omega (arith, b));
+      leaves = λ k d less. elim (cases_eq k turn) [
+        | inl e ↦ λ none. some (ap (after ps) (sym (ap (λ j. get_or ds j d) e ∙ (turned d).0 ∙ here d)) ∙ none)
+        | inr n ↦
+            let b = h.behind in
+            let before : k < turn = omega (arith, less, n) in
+            λ none. h.leaves k d before (ap (after ps) (sym (stays_put k d n (λ e. omega (arith, e, b, before)))) ∙ none)
+      ];
+      goes = λ k d past less. elim (cases_eq k i) [
+        | inl e ↦ ap (after ps) (ap (λ j. get_or ds j d) e ∙ (turned d).1) ∙ h.goes turn d (omega arith) (omega (arith, past, e))
+        | inr n ↦ ap (after ps) (stays_put k d (λ e. omega (arith, e, past)) n) ∙ h.goes k d (omega (arith, past)) (omega (arith, less, n))
+      ];
+      rest = λ k d past. let b = h.behind in stays_put k d (λ e. omega (arith, e, past, b)) (λ e. omega (arith, e, past)) ∙ h.rest k d (omega (arith, past));
+      tested = tested_more;
+    }
+
+-- ---- all
+
+module _ {ps : List ProcessorState} {all cs : List Change} {turn i : ℕ} {counts entries : Bool} (h : IsPutInOrder ps all cs turn i counts entries) (past : length all ≤ i) where
+  pub in_order : IsInOrder ps all cs
+  in_order =
+      let e = length_permutation all cs h.same in
+      record { same = h.same; turn = turn; leaves = λ k d lt first. h.leaves k d first; goes = λ k d lt late. h.goes k d late (omega (arith, lt, past, e)) }
 
 -- one more change is read, which may be the first
 pub see_more : (ps : List ProcessorState) (all cs : List Change) (turn i : ℕ) (counts entries first : Bool) → IsPutInOrder ps all cs turn i counts entries → IsSeenFirst ps all i first

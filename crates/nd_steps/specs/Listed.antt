@@ -2,10 +2,9 @@
 use Rattle.std.specs.Prelude.{◌≡◌, ℕ, ℤ, neg_ℤ, List, [], ◌∷◌, ◌++◌, map}
 use Rattle.nd_paths.specs.declared.point.Pointstamp.{Pointstamp}
 use Rattle.nd_delta.specs.Delta.{DeltaValue, entries}
-use Rattle.nd_protocol.specs.State.{ClusterState}
 use Rattle.nd_protocol.specs.declared.step.Step.{Step}
 use Rattle.nd_steps.specs.Changes.{at_key}
-use Rattle.nd_steps.specs.Records.{keyed, named_by, MakesBy}
+use Rattle.nd_steps.specs.Records.{keyed}
 use Rattle.nd_steps.specs.declared.slot.Slot.TheVariants.{Unsent}
 use Rattle.nd_steps.specs.declared.listed.Entry.{Entry}
 use Rattle.nd_steps.specs.declared.listed.Entry.TheVariants.{Key, View, Back, Front}
@@ -34,12 +33,6 @@ abbrev pub listed_by : {A : Type 0} → Step A → Changes A → List Entry
 listed_by x (Sent p part) = listed_sent p part
 listed_by x (Received from to change) = listed_received from to change
 listed_by x changes = map Key (keyed x changes)
-
--- the changes ds of a step name what its changes cs name, in the same order, and lead wherever these lead
-pub record TellsWhat {A : Type 0} (x : Step A) (cs ds : Changes A) : Type 0 where
-  pub listed : listed_by x ds ≡ listed_by x cs
-  pub many : named_by x ds ≡ named_by x cs
-  pub makes : (s t : ClusterState) → MakesBy s x cs t → MakesBy s x ds t
 
 -- the keys of maps and the ends of queues that a record changes, in order
 abbrev pub listed : {A : Type 0} → Record A → List Entry

@@ -4,14 +4,17 @@ use Rattle.nd_processor.specs.State.{ProcessorState}
 use Rattle.nd_processor.specs.declared.key.ValueAt.{ValueAt}
 use Rattle.nd_protocol.specs.State.{ClusterState}
 use Rattle.nd_protocol.specs.Enabled.{HasLargeCount, HasLargeEntry}
+use Rattle.nd_protocol.specs.declared.step.Step.{Step}
 use Rattle.nd_protocol.specs.declared.refusal.Refusal.{Refusal}
 use Rattle.nd_protocol.specs.declared.refusal.Refusal.TheVariants.{CountFull, DeltaFull}
 use Rattle.nd_steps.specs.Plans.{Each, ReachesIn, LeadsTo}
 use Rattle.nd_steps.specs.Limits.{CountStays, EntryStays, LimitFails}
 use Rattle.nd_steps.specs.Flows.{come_changes, flow_changes}
+use Rattle.nd_steps.specs.Fed.{fed_changes}
 use Rattle.nd_steps.specs.declared.change.Change.{Change}
 use Rattle.nd_steps.specs.declared.come.Come.{Come}
 use Rattle.nd_steps.specs.declared.flow.Flow.{Flow}
+use Rattle.nd_steps.specs.declared.fed_at.FedAt.{FedAt}
 
 -- ---- what is read about changes
 
@@ -40,6 +43,10 @@ pub record AreOrdered (processors : List ProcessorState) (all cs : List Change) 
 -- each state to which the changes lead exceeds the limit that the refusal r names
 abbrev pub PassLimit : List ProcessorState → List Change → Refusal → Type 0
 PassLimit processors all r = (s t : ClusterState) → ReachesIn processors s t all → LimitFails t r
+
+-- the feed g has the changes of the feed f in such an order
+abbrev pub IsOrderedFeed : {A : Type 0} → List ProcessorState → Step A → FedAt → FedAt → Type 0
+IsOrderedFeed processors x f g = AreOrdered processors (fed_changes x f) (fed_changes x g)
 
 -- the flow f has the changes of processor p's take with this consequence in such an order
 abbrev pub IsOrderedFlow : List ProcessorState → ℕ → ValueAt → Come → Flow → Type 0

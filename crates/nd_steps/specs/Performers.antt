@@ -14,6 +14,7 @@ use Rattle.nd_protocol.specs.declared.times.Times.{Times}
 use Rattle.nd_protocol.specs.declared.step.Step.TheVariants.{Feed, Take, Notice, Release, Send}
 use Rattle.nd_steps.specs.Drafts.{Has, Leads, TakesSo, NoticesSo, ReleasesSo, arrivals, made_by, emitted_by, values_by, fed_changes, taken_changes, noticed_changes, released_changes}
 use Rattle.nd_steps.specs.Flows.{come_changes}
+use Rattle.nd_steps.specs.Fed.{fed_changes as fed_changes_at}
 use Rattle.nd_steps.specs.Onward.{ComesBy}
 use Rattle.nd_steps.specs.declared.change.Change.{Change}
 use Rattle.nd_steps.specs.declared.come.Come.{Come}
@@ -21,6 +22,7 @@ use Rattle.nd_steps.specs.declared.come.Come.TheVariants.{Record}
 use Rattle.nd_steps.specs.declared.draft.Draft.{Draft}
 use Rattle.nd_steps.specs.declared.emit.Performer.{Performer}
 use Rattle.nd_steps.specs.declared.feed.Fed.{Fed}
+use Rattle.nd_steps.specs.declared.fed_at.FedAt.{FedAt}
 use Rattle.nd_steps.specs.declared.react.Taken.{Taken}
 
 -- ---- a draft that grows
@@ -59,6 +61,10 @@ abbrev pub FeedLeads : (A : Type 0) {B : Type 0} → Performer B → Fed → Lis
 FeedLeads A by fed cs =
     (s : ClusterState) → Has by.graph.now by.n s → fin.get (processor s by.p).tokens by.vertex ≡ Some fed.epoch
     → Leads {A = A} s (Feed by.p by.vertex fed.values.now fed.next) cs
+
+-- the same of the changes that f stands for
+abbrev pub FedAtLeads : (A : Type 0) {B : Type 0} → Performer B → Fed → FedAt → Type 0
+FedAtLeads A by fed f = FeedLeads A by fed (fed_changes_at {A = A} (Feed by.p by.vertex fed.values.now fed.next) f)
 
 -- in each cluster of the performer in which the take has this effect, the changes are those of the take
 abbrev pub TakeLeads : {A B : Type 0} → Performer B → Taken A → List Change → Type 0

@@ -22,6 +22,12 @@ keyed x (Fed at) = fed_changes x at
 keyed x (Sent p part) = []
 keyed x (Received from to change) = []
 
+-- the changes are at single keys: not those of a broadcast or a receive
+abbrev pub IsKeyed : {A : Type 0} → Changes A → Type 0
+IsKeyed (Sent p part) = ⊥
+IsKeyed (Received from to change) = ⊥
+IsKeyed changes = Unit {0}
+
 -- how many keys of maps and ends of queues the changes of a step name; a broadcast names one end for all its queues
 abbrev pub named_by : {A : Type 0} → Step A → Changes A → ℕ
 named_by x (Sent p part) = size part + 1

@@ -1,5 +1,5 @@
 //! A change at one place of a cluster's state: a place, and a number.
-ghost use Rattle.std.specs.Prelude.{◌≡◌, IsTrue, neg_ℤ, pos};
+ghost use Rattle.std.specs.Prelude.{◌≡◌, neg_ℤ, pos};
 ghost use Rattle.nd_steps.specs.Undone.{IsGain};
 
 use crate::Slot;
@@ -36,13 +36,6 @@ impl Change {
             slot: self.slot.copy(),
             n: self.n,
         }
-    }
-
-    // Returns whether the two changes are equal.
-    pub(crate) fn same(&self, other: &Change) -> bool
-        ensures { IsTrue result → self.now ≡ other.now }
-    {
-        self.p == other.p && self.slot.same(&other.slot) && self.n == other.n
     }
 
     // Returns the number of the inverse, which undoes the change.

@@ -1,14 +1,17 @@
 //! Feeds that are kept in little memory: the step determines most of the changes.
-ghost use Rattle.std.specs.Prelude.{◌≡◌, ◌≤◌, ◌+◌, ◌++◌, IfSome, length};
-ghost use Rattle.nd_steps.specs.Fed.{arrived as arrived_at, announced, moved, fed_changes};
+ghost use Rattle.std.specs.Prelude.{◌≡◌, ◌≤◌, ◌+◌, ◌++◌, IfErr, IfOk, length};
+ghost use Rattle.nd_steps.specs.Fed.{arrived as arrived_at, announced, token_moves, token_goes, token_comes, moved, fed_changes, IsEarly};
+ghost use Rattle.nd_steps.specs.Ordered.{CanReach, IsOrderedFeed, PassLimit};
 
 use crate::feed::moves;
 use crate::flow::MOST;
+use crate::limits::test_limits;
+use crate::reading::reading_of;
 use crate::told::Told;
 use crate::{Change, Slot, record_at};
 use arrayvec::ArrayVec;
-use nd_processor::token_point;
-use nd_protocol::Step;
+use nd_processor::{Processor, token_point};
+use nd_protocol::{Refusal, Step};
 use nd_time::Timestamp;
 use std::alloc::Allocator;
 
@@ -24,34 +27,10 @@ pub struct FedAt {
     pub epoch: u32,
     /// The epoch of the token after the feed.
     pub next: u32,
-    /// Whether the token's pointstamp is removed from what is unsent after everything else was added.
-    pub late: bool,
-}
-
-// Guesses from the changes of a feed into `vertex` where its records arrive and where its token moves.
-fn guessed(vertex: usize, changes: &[Change]) -> FedAt {
-    let mut at = FedAt::default();
-    let mut next = None;
-    for change in changes {
-        match &change.slot {
-            Slot::Records(key) => {
-                at.edge = key.point.location;
-                at.to = change.p;
-                at.epoch = key.point.time.epoch();
-            }
-            Slot::Unsent(point) if point.location == vertex => {
-                if change.n < 0 {
-                    at.epoch = point.time.epoch();
-                    at.late = next.is_some();
-                } else {
-                    next = Some(point.time.epoch());
-                }
-            }
-            _ => {}
-        }
-    }
-    at.next = next.unwrap_or(at.epoch);
-    at
+    /// Whether the token's pointstamp before the feed is removed from what is unsent at the end.
+    pub goes_last: bool,
+    /// Whether the token's pointstamp after the feed is added to what is unsent at the end.
+    pub comes_last: bool,
 }
 
 impl FedAt {
@@ -83,6 +62,39 @@ impl FedAt {
         });
     }
 
+    // Returns the change of the token of processor `p`'s vertex.
+    fn token(&self, p: u32, vertex: usize) -> Change
+        ensures { result ≡ token_moves self.now p vertex }
+    {
+        Change {
+            p,
+            slot: Slot::Token(vertex),
+            n: moves(self.epoch, self.next),
+        }
+    }
+
+    // Returns the change that removes the token's pointstamp before the feed from what is unsent.
+    fn goes(&self, p: u32, vertex: usize) -> Change
+        ensures { result ≡ token_goes self.now p vertex }
+    {
+        Change {
+            p,
+            slot: Slot::Unsent(token_point(vertex, self.epoch)),
+            n: -1,
+        }
+    }
+
+    // Returns the change that adds the token's pointstamp after the feed to what is unsent.
+    fn comes(&self, p: u32, vertex: usize) -> Change
+        ensures { result ≡ token_comes self.now p vertex }
+    {
+        Change {
+            p,
+            slot: Slot::Unsent(token_point(vertex, self.next)),
+            n: 1,
+        }
+    }
+
     // Lists the changes by which the token of processor `p`'s vertex moves, and the one that announces
     // the records.
     fn moved(&self, p: u32, vertex: usize, many: usize) -> ArrayVec<Change, MOST>
@@ -93,29 +105,29 @@ impl FedAt {
             self.announce(&mut list, p, many);
             return list;
         }
-        list.push(Change {
-            p,
-            slot: Slot::Token(vertex),
-            n: moves(self.epoch, self.next),
-        });
-        let goes = Change {
-            p,
-            slot: Slot::Unsent(token_point(vertex, self.epoch)),
-            n: -1,
-        };
-        let comes = Change {
-            p,
-            slot: Slot::Unsent(token_point(vertex, self.next)),
-            n: 1,
-        };
-        if self.late {
-            list.push(comes);
-            self.announce(&mut list, p, many);
-            list.push(goes);
-        } else {
-            list.push(goes);
-            list.push(comes);
-            self.announce(&mut list, p, many);
+        let (goes, comes) = (self.goes(p, vertex), self.comes(p, vertex));
+        list.push(self.token(p, vertex));
+        match (self.goes_last, self.comes_last) {
+            (false, false) => {
+                list.push(goes);
+                list.push(comes);
+                self.announce(&mut list, p, many);
+            }
+            (true, false) => {
+                list.push(comes);
+                self.announce(&mut list, p, many);
+                list.push(goes);
+            }
+            (false, true) => {
+                list.push(goes);
+                self.announce(&mut list, p, many);
+                list.push(comes);
+            }
+            (true, true) => {
+                self.announce(&mut list, p, many);
+                list.push(comes);
+                list.push(goes);
+            }
         }
         list
     }
@@ -138,18 +150,32 @@ impl FedAt {
             Step::Send { .. } | Step::Broadcast { .. } | Step::Receive { .. } => Told::whole(&[]),
         }
     }
+}
 
-    // Returns what stands for these changes of a step, or `None` if it finds nothing that does.
-    pub(crate) fn telling<A: Allocator>(step: &Step<A>, changes: &[Change]) -> Option<FedAt>
-        ensures { IfSome result (λ f. fed_changes step.now f ≡ changes.now) }
-    {
-        let Step::Feed { vertex, .. } = step else {
-            return None;
-        };
-        let at = guessed(*vertex, changes);
-        if !at.told(step).is(changes) {
-            return None;
-        }
-        Some(at)
+/// Returns the changes of a feed in an order in which everything is added before anything is removed; or the limit because of
+/// which the feed is refused: that of counts before that of entries (this project's own rule).
+pub fn ordered_feed<A: Allocator + Copy>(
+    processors: &[Processor<A>],
+    step: &Step<A>,
+    at: FedAt,
+) -> Result<FedAt, Refusal>
+    requires reach { CanReach processors.now (fed_changes step.now at) }
+    requires early { IsEarly at }
+    ensures ok { IfOk result (IsOrderedFeed processors.now step.now at) }
+    ensures refused { IfErr result (PassLimit processors.now (fed_changes step.now at)) }
+{
+    test_limits(processors, &at.told(step))?;
+    let Step::Feed { p, vertex, .. } = step else {
+        return Ok(at);
+    };
+    if at.next == at.epoch {
+        return Ok(at);
     }
+    let goes = reading_of(processors, &at.goes(*p, *vertex));
+    let comes = reading_of(processors, &at.comes(*p, *vertex));
+    Ok(FedAt {
+        goes_last: !goes.leaves,
+        comes_last: !comes.leaves,
+        ..at
+    })
 }

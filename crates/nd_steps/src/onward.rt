@@ -18,7 +18,7 @@ use nd_vertex::Emission;
 use std::alloc::Allocator;
 
 // Returns the one edge that leaves a port of a vertex, by its number among the edges, with its route.
-fn only_edge(edges: &[Edge], vertex: usize, port: u32) -> Option<(usize, Route)>
+pub(crate) fn only_edge(edges: &[Edge], vertex: usize, port: u32) -> Option<(usize, Route)>
     ensures one { IfSome result (λ r. leaving vertex port 0 edges.now ≡ r ∷ []) }
     ensures there { IfSome result (λ r. r.0 < length edges.now) }
     ensures none { IsNone result → length (leaving vertex port 0 edges.now) ≢ 1 }

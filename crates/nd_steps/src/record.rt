@@ -1,7 +1,6 @@
 //! Records of steps: the changes of each.
 ghost use Rattle.std.specs.Prelude.{◌≡◌, IfOk};
 ghost use Rattle.nd_steps.specs.Records.{keyed, named, AreEqual, MakesWhat};
-ghost use Rattle.nd_steps.specs.Listed.{listed, TellsWhat};
 
 use crate::told::Told;
 use crate::{Change, FedAt, Flow};
@@ -81,18 +80,6 @@ impl<A: Allocator + Copy> Changes<A> {
             }),
         }
     }
-
-    // Returns the same changes of a step, with a `FedAt` in place of a list if one stands for it.
-    fn small(self, step: &Step<A>) -> Changes<A>
-        ensures { TellsWhat step.now self result }
-    {
-        if let Changes::Each(list) = &self {
-            if let Some(at) = FedAt::telling(step, list) {
-                return Changes::Fed(at);
-            }
-        }
-        self
-    }
 }
 
 impl<A: Allocator + Copy> Record<A> {
@@ -142,18 +129,5 @@ impl<A: Allocator + Copy> Record<A> {
             step: self.step.copy(alloc)?,
             changes: self.changes.copy(alloc)?,
         })
-    }
-
-    /// Returns a record of the same step with the same changes in the same order. It holds a [`FedAt`] in
-    /// place of a list for which it finds one.
-    pub fn small(self) -> Record<A>
-        ensures step { result.step ≡ self.step }
-        ensures listed { listed result ≡ listed self }
-        ensures many { named result ≡ named self }
-        ensures makes { MakesWhat self result }
-    {
-        let Record { step, changes } = self;
-        let changes = changes.small(&step);
-        Record { step, changes }
     }
 }

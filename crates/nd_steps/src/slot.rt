@@ -1,5 +1,5 @@
 //! The keys of a processor's maps.
-ghost use Rattle.std.specs.Prelude.{◌≡◌, IsTrue};
+ghost use Rattle.std.specs.Prelude.{◌≡◌};
 ghost use Rattle.nd_protocol.specs.Steps.{record_key};
 
 use nd_paths::Pointstamp;
@@ -37,27 +37,6 @@ pub fn record_at(edge: usize, time: &Timestamp, value: i64) -> ValueAt
 }
 
 impl Slot {
-    // Returns whether the two keys are equal.
-    pub(crate) fn same(&self, other: &Slot) -> bool
-        ensures { IsTrue result → self.now ≡ other.now }
-    {
-        match (self, other) {
-            (Slot::Records(key), Slot::Records(other)) => *key == *other,
-            (Slot::Request(point), Slot::Request(other)) => *point == *other,
-            (Slot::Token(vertex), Slot::Token(other)) => *vertex == *other,
-            (
-                Slot::State { vertex, key },
-                Slot::State {
-                    vertex: of,
-                    key: other,
-                },
-            ) => *vertex == *of && *key == *other,
-            (Slot::Sink(key), Slot::Sink(other)) => *key == *other,
-            (Slot::Unsent(point), Slot::Unsent(other)) => *point == *other,
-            _ => false,
-        }
-    }
-
     /// Returns an equal key.
     pub fn copy(&self) -> Slot
         ensures { result ≡ self.now }

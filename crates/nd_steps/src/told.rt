@@ -1,5 +1,5 @@
 //! The changes of a feed, a take, a notice, a release or a send, by their indices.
-ghost use Rattle.std.specs.Prelude.{◌≡◌, ◌<◌, ◌++◌, IsTrue, length, map, slice_index_or};
+ghost use Rattle.std.specs.Prelude.{◌≡◌, ◌<◌, ◌++◌, length, map, slice_index_or};
 ghost use Rattle.std.specs.Cow.{cow_value};
 ghost use Rattle.nd_steps.specs.Fed.{arrived};
 ghost use Rattle.nd_steps.specs.Told.{changes_in};
@@ -92,20 +92,5 @@ impl<'a> Told<'a> {
             return Cow::Owned(self.at.arrived(self.values[i]));
         }
         Cow::Borrowed(&self.rest.as_slice()[i - count])
-    }
-
-    // Returns whether these are the changes.
-    pub(crate) fn is(&self, changes: &[Change]) -> bool
-        ensures { IsTrue result → self.now ≡ changes.now }
-    {
-        if self.len() != changes.len() {
-            return false;
-        }
-        for i in 0..changes.len() {
-            if !self.at(i).same(&changes[i]) {
-                return false;
-            }
-        }
-        true
     }
 }

@@ -172,7 +172,7 @@ impl<A: Allocator + Copy> Timeline<A> {
         }
     }
 
-    // Executes a planned step, and keeps its small record.
+    // Executes a planned step, and keeps its record.
     pub(crate) fn make(&mut self, planned: Record<A>) -> Result<(), NoMemory>
         requires room { self.old.cursor < max_kept }
         requires planned { IsPlanned planned (cluster_of self.old) }
@@ -185,7 +185,7 @@ impl<A: Allocator + Copy> Timeline<A> {
         let Ok(()) = self.walk.cluster.commit(&planned) else {
             return Err(NoMemory);
         };
-        self.kept.keep(self.walk.at, planned.small());
+        self.kept.keep(self.walk.at, planned);
         self.walk.at += 1;
         self.kept.save_if_due(&self.walk);
         Ok(())

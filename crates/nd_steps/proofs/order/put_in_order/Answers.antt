@@ -41,19 +41,19 @@ pub returns-then-not-counts_stay-clause-order : goal.returns-then-not-counts_sta
 returns-then-not-counts_stay-clause-order g c = in_order c.loop-i.invariant.put c.loop-i-test.false
 
 pub returns-then-not-counts_stay-clause-refused : goal.returns-then-not-counts_stay-clause-refused
-returns-then-not-counts_stay-clause-refused g c = count_fails c.loop-i.invariant.put c.loop-i-test.false c.if-not-counts_stay.true
+returns-then-not-counts_stay-clause-refused g c = count_fails c.loop-i.invariant.put.tested c.loop-i-test.false c.if-not-counts_stay.true
 
 pub returns-then-not-entries_stay-clause-order : goal.returns-then-not-entries_stay-clause-order
 returns-then-not-entries_stay-clause-order g c = in_order c.loop-i.invariant.put c.loop-i-test.false
 
 pub returns-then-not-entries_stay-clause-refused : goal.returns-then-not-entries_stay-clause-refused
-returns-then-not-entries_stay-clause-refused g c = entry_fails c.loop-i.invariant.put c.loop-i-test.false c.if-not-counts_stay.false c.if-not-entries_stay.true
+returns-then-not-entries_stay-clause-refused g c = entry_fails c.loop-i.invariant.put.tested c.loop-i-test.false c.if-not-counts_stay.false c.if-not-entries_stay.true
 
 pub returns-clause-order : goal.returns-clause-order
 returns-clause-order g c = in_order c.loop-i.invariant.put c.loop-i-test.false
 
 pub returns-clause-within : goal.returns-clause-within
-returns-clause-within g c = all_within c.loop-i.invariant.put c.loop-i-test.false c.if-not-counts_stay.false c.if-not-entries_stay.false
+returns-clause-within g c = all_within c.loop-i.invariant.put.tested c.loop-i-test.false c.if-not-counts_stay.false c.if-not-entries_stay.false
 
 pub returns-clause-first : goal.returns-clause-first
 returns-clause-first g c = λ d some. c.loop-i.invariant.seen.known d (omega (arith, some, c.loop-i-test.false))

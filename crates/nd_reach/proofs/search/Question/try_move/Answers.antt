@@ -1,4 +1,4 @@
-use Rattle.std.proofs.Common.{◌∙◌, ◌<◌, ◌≤◌, ◌++◌, ◌∷◌, [], length, sym, ap, subst, arith}
+use Rattle.std.proofs.Common.{◌∙◌, ◌<◌, ◌≤◌, ◌++◌, ◌∷◌, [], length, refl, sym, ap, subst, arith}
 use Rattle.std.specs.Prelude.{Contains, IfSome}
 use Rattle.nd_protocol.specs.State.{ClusterState}
 use Rattle.nd_protocol.specs.Fitting.{IsState}
@@ -6,7 +6,7 @@ use Rattle.nd_cluster.specs.Saved.{IsSaved}
 use Rattle.nd_reach.specs.Forms.{form}
 use Rattle.nd_reach.specs.Questions.{wanted}
 use Rattle.nd_breaks.specs.Conditions.{Holds}
-use Rattle.nd_reach.proofs.Tries.{goes_on_met, is_full, goes_on_added, is_hit, same_going, same_hit, same_full, small_planned, not_there, not_held}
+use Rattle.nd_reach.proofs.Tries.{goes_on_met, is_full, goes_on_added, is_hit, same_going, same_hit, same_full, not_there, not_held}
 use Rattle.nd_reach.proofs.search.Question.try_move.Goals as goal
 
 pub returns-then-branch : goal.returns-then-branch
@@ -52,7 +52,7 @@ returns-then-holds g c = record {
       let saved = subst (λ (u : ClusterState). IfSome c.new-node.result.saved (λ b. IsSaved u b.value)) step (subst (λ o. IfSome o (λ b. IsSaved c.commit.new.self b.value)) (sym c.new-node.ensures.saved) c.in_ok-saved.ensures) in
       let holds = subst (λ (u : ClusterState). Holds u c.args.self.now.when.now) step (c.holds-holds.ensures.0 c.if-holds.true) in
       let hit = is_hit tell (wanted c.args.self.now) c.args.found.now.forms.keys c.args.found.now.nodes.items c.args.at c.args.walker.now moves n c.args.made.step h next state fresh
-      c.new-node.result c.small.result c.small.ensures.step (small_planned c.args.made c.small.result c.args.walker.now c.requires.planned c.small.ensures.step c.small.ensures.many c.small.ensures.makes) c.new-node.ensures.parent c.new-node.ensures.made saved few holds in
+      c.new-node.result c.args.made refl c.requires.planned c.new-node.ensures.parent c.new-node.ensures.made saved few holds in
       same_hit (wanted c.args.self.now) _ _ _ _ hit
       (c.in_ok-add.ensures.forms ∙ (ap (λ fs. fs ++ c.has.new.self.met ∷ []) (ap (λ f. f.keys) c.in_ok-has.ensures.forms) ∙ ap (λ f. c.args.found.now.forms.keys ++ f ∷ []) (c.in_ok-has.ensures.met ∙ ap form step)))
       (c.in_ok-add.ensures.nodes ∙ ap (λ ns. ns ++ c.new-node.result ∷ []) same));
@@ -72,7 +72,7 @@ returns-else-holds g c = record {
       let saved = subst (λ (u : ClusterState). IfSome c.new-node.result.saved (λ b. IsSaved u b.value)) step (subst (λ o. IfSome o (λ b. IsSaved c.commit.new.self b.value)) (sym c.new-node.ensures.saved) c.in_ok-saved.ensures) in
       let not = not_held c.holds-holds.result _ (λ holds. c.holds-holds.ensures.1 (subst (λ (u : ClusterState). Holds u c.args.self.now.when.now) (sym step) holds)) c.if-holds.false in
       let on = goes_on_added tell (wanted c.args.self.now) c.args.found.now.forms.keys c.args.found.now.nodes.items c.args.at c.args.walker.now moves n c.args.made.step h next state fresh
-      c.new-node.result c.small.result c.small.ensures.step (small_planned c.args.made c.small.result c.args.walker.now c.requires.planned c.small.ensures.step c.small.ensures.many c.small.ensures.makes) c.new-node.ensures.parent c.new-node.ensures.made saved few not in
+      c.new-node.result c.args.made refl c.requires.planned c.new-node.ensures.parent c.new-node.ensures.made saved few not in
       same_going (wanted c.args.self.now) _ _ _ _ c.args.at c.args.walker.now _ moves _ on
       (c.in_ok-add.ensures.forms ∙ (ap (λ fs. fs ++ c.has.new.self.met ∷ []) (ap (λ f. f.keys) c.in_ok-has.ensures.forms) ∙ ap (λ f. c.args.found.now.forms.keys ++ f ∷ []) (c.in_ok-has.ensures.met ∙ ap form step)))
       (c.in_ok-add.ensures.nodes ∙ ap (λ ns. ns ++ c.new-node.result ∷ []) same)

@@ -1,0 +1,1 @@
+use Rattle.nd_cluster.proofs.cluster.Cluster.ordered.Goals as goal
