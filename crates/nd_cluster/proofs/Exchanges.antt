@@ -1,5 +1,5 @@
 -- Why a broadcast or a receive is enabled or refused, and how much it changes.
-use Rattle.std.proofs.Common.{◌≡◌, ◌≢◌, ◌⊎◌, inl, inr, ℕ, ◌+◌, ◌-◌, ◌<◌, ◌≤◌, ℤ, pos, List, [], length, Vec, Result, Ok, Err, Some, None, refl, sym, ap, subst, ◌∙◌, arith, get_or-set_same, get_or-set_other}
+use Rattle.std.proofs.Common.{◌≡◌, ◌≢◌, ◌⊎◌, inl, inr, ℕ, ◌+◌, ◌-◌, ◌<◌, ◌≤◌, ℤ, pos, List, [], length, Result, Ok, Err, Some, None, refl, sym, ap, subst, ◌∙◌, arith, get_or-set_same, get_or-set_other}
 use Rattle.std.proofs.lemmas.Bool.{cases_lt, cases_eq}
 use Rattle.std.proofs.lemmas.Int.{ints}
 use Rattle.std.proofs.lemmas.List.{get_or_past}
@@ -26,9 +26,13 @@ use Rattle.nd_steps.specs.Standing.{changed}
 use Rattle.nd_steps.specs.Counted.{SentChanges, ReceivedChanges}
 use Rattle.nd_steps.specs.Stored.{received-front}
 use Rattle.nd_cluster.specs.Records.{shared, Plans, ComesLast}
+use Rattle.nd_steps.specs.Plans.{LeadsTo}
+use Rattle.nd_steps.specs.Flows.{flow_changes, told_changes}
+use Rattle.nd_steps.specs.declared.flow.Flow.{Flow}
 use Rattle.nd_steps.specs.declared.record.Changes.{Changes}
 use Rattle.nd_steps.specs.declared.record.Changes.TheVariants.{Each, Flowed, Fed, Sent, Received}
-use Rattle.nd_cluster.specs.Drafted.{Works, LeadWithin}
+use Rattle.nd_processor.specs.declared.key.ValueAt.{ValueAt}
+use Rattle.nd_cluster.specs.Drafted.{Works, take_of, LeadWithin}
 use Rattle.nd_map.specs.Cases.{zero_or_not}
 
 is_part : (c d : DeltaValue) → IsPartOf c d → IsPart c d
@@ -57,6 +61,10 @@ module _ {A : Type 0} (s : ClusterState) where
     work_plans (Fed at) h = record { enabled = may; makes = (h.leads.runs, h.leads.arrives); small = named_all _ h.leads.small }
     work_plans (Sent p part) h = absurd (h.single)
     work_plans (Received from to change) h = absurd (h.single)
+
+-- the changes of a flow, for a step that is its take
+pub flow_leads : {A : Type 0} (s t : ClusterState) (p : ℕ) (gone : ValueAt) (f : Flow) (x : Step A) → x ≡ take_of p gone → LeadsTo s t (flow_changes p gone f) → LeadsTo s t (told_changes x f)
+flow_leads {A} s t p gone f x is leads = subst (λ (y : Step A). LeadsTo s t (told_changes y f)) (sym is) leads
 
 -- ---- a notice
 

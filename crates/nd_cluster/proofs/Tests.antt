@@ -1,5 +1,5 @@
 -- What the tests of a plan say together: that a step is enabled, or because of which limit or later test it is refused.
-use Rattle.std.proofs.Common.{◌≡◌, ◌≢◌, ◌<◌, ℕ, ℤ, refl, sym, subst, arith}
+use Rattle.std.proofs.Common.{◌≢◌, ◌<◌, refl, arith}
 use Rattle.nd_protocol.specs.State.{ClusterState}
 use Rattle.nd_protocol.specs.Steps.{stepped}
 use Rattle.nd_protocol.specs.Enabled.{HasLargeCount, HasLargeEntry, Fails, IsEnabled, IsFreeBelow, IsRefused}

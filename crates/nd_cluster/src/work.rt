@@ -261,10 +261,17 @@ impl<A: Allocator + Copy> Cluster<A> {
     {
         let processors = self.processors();
         match drafted {
-            Drafted::Each(all) => Ok(Changes::Each(planned_changes(processors, all)?)),
-            Drafted::Fed(at) => Ok(Changes::Fed(ordered_feed(processors, step, at)?)),
+            Drafted::Each(all) => {
+                let changes = planned_changes(processors, all)?;
+                Ok(Changes::Each(changes))
+            }
+            Drafted::Fed(early) => {
+                let at = ordered_feed(processors, step, early)?;
+                Ok(Changes::Fed(at))
+            }
             Drafted::Flow { p, gone, come } => {
-                Ok(Changes::Flowed(ordered_flow(processors, p, &gone, come)?))
+                let flow = ordered_flow(processors, p, &gone, come)?;
+                Ok(Changes::Flowed(flow))
             }
         }
     }

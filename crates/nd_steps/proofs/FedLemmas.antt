@@ -1,6 +1,6 @@
 -- The changes of a feed whose values arrive in order, in the order in which they are applied: they reach the same state, and everything
 -- is added before anything is removed.
-use Rattle.std.proofs.Common.{◌≡◌, ◌≢◌, ◌⊎◌, ◌<◌, ◌≤◌, ◌+◌, ℕ, zero, suc, ℤ, pos, negsuc, ◌+ℤ◌, ◌-ℤ◌, Bool, true, false, not, cond, nat_eq, Option, None, Some, List, [], ◌∷◌, ◌++◌, map, length, append_assoc, append-nil, refl, sym, ap, subst, ◌∙◌, arith, inl, inr}
+use Rattle.std.proofs.Common.{◌≡◌, ◌≢◌, ◌⊎◌, ◌<◌, ◌+◌, ℕ, zero, suc, ℤ, pos, ◌+ℤ◌, ◌-ℤ◌, Bool, true, false, not, cond, nat_eq, Option, None, Some, List, [], ◌∷◌, ◌++◌, map, length, append_assoc, append-nil, refl, sym, ap, subst, ◌∙◌, arith, inl, inr}
 use Rattle.std.specs.Prelude.{◌↔◌, IsTrue}
 use Rattle.std.specs.List.Sorted.{IsPermutation}
 use Rattle.std.proofs.lemmas.Bool.Decides.{nat_tests}
@@ -13,7 +13,7 @@ use Rattle.nd_steps.specs.Slots.{from_epoch}
 use Rattle.nd_steps.specs.Standing.{standing}
 use Rattle.nd_steps.specs.Changes.{at_key, place_of, Finds}
 use Rattle.nd_steps.specs.Limits.{after, CountStays, EntryStays}
-use Rattle.nd_steps.specs.Plans.{Each, Reaches, ReachesIn, LeadsTo}
+use Rattle.nd_steps.specs.Plans.{Each, Reaches, LeadsTo}
 use Rattle.nd_steps.specs.Ordered.{StayWithin, AreOrdered, IsOrderedFeed}
 use Rattle.nd_steps.specs.Turns.{IsReadable}
 use Rattle.nd_steps.specs.Fed.{arrived, announced, token_moves, token_goes, token_comes, around, moved, fed_changes, IsEarly}

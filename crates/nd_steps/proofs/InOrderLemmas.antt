@@ -1,7 +1,6 @@
 -- Feeds whose values arrive in order: their list of changes adds what the feed adds, and no place occurs twice in it.
-use Rattle.std.proofs.Common.{◌≡◌, ◌≢◌, ◌<◌, ◌≤◌, ◌+◌, ◌-◌, ◌^◌, ℕ, zero, suc, ℤ, pos, negsuc, ◌+ℤ◌, ◌-ℤ◌, Bool, true, false, cond, inl, inr, None, List, [], ◌∷◌, ◌++◌, map, length, get_or, nat_eq, length-append, refl, sym, ap, subst, ◌∙◌, arith}
-use Rattle.std.specs.Prelude.{◌<ℤ◌, slice_get}
-use Rattle.std.specs.List.{flat_map}
+use Rattle.std.proofs.Common.{◌≡◌, ◌≢◌, ◌<◌, ◌≤◌, ◌+◌, ◌-◌, ◌^◌, ℕ, suc, ℤ, pos, negsuc, ◌+ℤ◌, ◌-ℤ◌, Bool, true, false, cond, inl, inr, None, List, [], ◌∷◌, ◌++◌, map, length, get_or, nat_eq, length-append, refl, sym, ap, subst, ◌∙◌, arith}
+use Rattle.std.specs.Prelude.{◌<ℤ◌}
 use Rattle.std.proofs.lemmas.Int.{ints}
 use Rattle.std.proofs.lemmas.Bool.{cases_lt}
 use Rattle.std.proofs.lemmas.Bool.Decides.{nat_tests}
@@ -21,10 +20,9 @@ use Rattle.nd_steps.specs.Places.{Place, place_at, is_place}
 use Rattle.nd_steps.specs.Changes.{at_key, place_of}
 use Rattle.nd_steps.specs.Plans.{often, total_at, Once, Each}
 use Rattle.nd_steps.specs.Drafts.{some_of, AreJoined, arrivals, token_changes, fed_changes as found_changes, made_by, emission_of, values_by}
-use Rattle.nd_steps.specs.Fed.{arrived, announced, moved, GoesTo, GoInOrder}
+use Rattle.nd_steps.specs.Fed.{arrived, announced, moved, GoesTo}
 use Rattle.nd_steps.specs.Onward.{leaving}
 use Rattle.nd_steps.specs.declared.change.Change.{Change}
-use Rattle.nd_steps.specs.declared.slot.Slot.{Slot}
 use Rattle.nd_steps.specs.declared.slot.Slot.TheVariants.{Records, Token, Unsent}
 use Rattle.nd_steps.specs.declared.fed_at.FedAt.{FedAt}
 use Rattle.nd_steps.proofs.AlikeLemmas.{other_place}

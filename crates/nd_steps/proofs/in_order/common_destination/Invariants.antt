@@ -1,4 +1,4 @@
-use Rattle.std.proofs.Common.{◌≡◌, ◌<◌, ◌≤◌, ◌+◌, ℕ, ℤ, length, get_or}
+use Rattle.std.proofs.Common.{◌≡◌, ◌<◌, ◌+◌, ℕ, ℤ, get_or}
 use Rattle.std.specs.Prelude.{◌<ℤ◌}
 use Rattle.nd_protocol.specs.Steps.{destination}
 use Rattle.nd_steps.proofs.in_order.common_destination.Given as goal
