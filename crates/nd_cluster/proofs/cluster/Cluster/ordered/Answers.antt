@@ -18,7 +18,7 @@ returns-in_err-changes-in-Each-clause-refused g c =
     let t = stepped s x in
     let draft = subst (λ (d : Drafted g.row.A.Denot). IsDraft s x d) c.in-Each.is c.requires.drafted in
     let made : ReachesIn c.processors-processors.result.now s t c.in-Each.all.items = (sym c.processors-processors.ensures.value, draft) in
-    let p = err_from_is_err_and c.from_residual-in_err-changes-in-Each.result c.from_residual-in_err-changes-in-Each.ensures.1 in
+    let p = err_from_is_err_and c.from_residual.result c.from_residual.ensures.1 in
     rw (p.1) (λ some. limit_refused s x c.requires.works c.requires.free p.0 (subst (LimitFails t) (sym p.2) (c.in_err-changes-in-Each.ensures.refused s t made)) some)
 
 pub returns-in_err-at-in-Fed-clause-refused : goal.returns-in_err-at-in-Fed-clause-refused
