@@ -7,8 +7,8 @@ returns-in-Some-clause-refused g c =
     let within = c.in_ok-changes.ensures.ok in
     λ some. last_refused c.args.self.now c.args.step.now c.requires c.in_ok-drafted.ensures.free within.counts within.entries c.in-Some.refusal c.in-Some.ensures
 
-pub returns-in_default-clause-ok : goal.returns-in_default-clause-ok
-returns-in_default-clause-ok g c =
+pub returns-clause-ok : goal.returns-clause-ok
+returns-clause-ok g c =
     let s = c.args.self.now in
     let x = c.args.step.now in
     let within = c.in_ok-changes.ensures.ok in
