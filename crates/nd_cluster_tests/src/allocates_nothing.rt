@@ -14,7 +14,7 @@ use nd_graph::{Graph, Op};
 use nd_mesh::Mesh;
 use nd_paths::Paths;
 use nd_processor::{Processor, ValueAt};
-use nd_testing::{Refusing, unasked};
+use nd_testing::{Refusing, ok, some, unasked};
 use nd_time::Timestamp;
 use nd_vertex::VertexState;
 use nd_view::View;
@@ -23,22 +23,25 @@ use std::alloc::{Allocator, Global};
 /// Returns whether a change of -1 at a and 2 at z has these entries, and accepts what is added at a.
 fn change_tells<A: Allocator + Copy>(paths: &Paths<A>, change: &mut Delta<A>) -> Option<bool> {
     let graph = paths.graph();
-    let (a, az) = (point(graph, "a", &[0])?, point(graph, "az", &[0])?);
+    let (a, az) = (
+        some!(point(graph, "a", &[0])),
+        some!(point(graph, "az", &[0])),
+    );
     let is_told = (change.get(&a), change.get(&az), change.len()) == (-1, 0, 2)
         && change.entries().len() == 2
         && change.unsupported(paths) == None;
-    change.add(&a, 2).ok()?;
+    ok!(change.add(&a, 2));
     let is_more = change.unsupported_by(paths, &[az.copy()]) == change.unsupported(paths);
-    change.add(&a, -1).ok()?;
-    change.add(&az, 0).ok()?;
+    ok!(change.add(&a, -1));
+    ok!(change.add(&az, 0));
     Some(is_told && is_more && change.len() == 1)
 }
 
 fn changes_tell<A: Allocator + Copy>(heap: &Heap, alloc: A, json: Global) -> Option<bool> {
-    let paths = paths_of(json, alloc, LINE)?;
-    let mut change = change(alloc, paths.graph(), &[("a", 0, -1), ("z", 0, 2)])?;
-    let is_told = unasked!(heap: change_tells(&paths, &mut change)?);
-    let part = unasked!(heap: change.part(alloc, &[]).ok()?);
+    let paths = some!(paths_of(json, alloc, LINE));
+    let mut change = some!(change(alloc, paths.graph(), &[("a", 0, -1), ("z", 0, 2)]));
+    let is_told = unasked!(heap: some!(change_tells(&paths, &mut change)));
+    let part = unasked!(heap: ok!(change.part(alloc, &[])));
     Some(is_told && part.len() == 0)
 }
 
@@ -47,7 +50,10 @@ fn view_tells<A: Allocator + Copy>(paths: &Paths<A>, view: &View<A>) -> Option<b
     requires { IsFor paths.now view.now }
 {
     let graph = paths.graph();
-    let (a, z) = (point(graph, "a", &[0])?, point(graph, "z", &[0])?);
+    let (a, z) = (
+        some!(point(graph, "a", &[0])),
+        some!(point(graph, "z", &[0])),
+    );
     Some(
         (view.get(&a), view.counts().len(), view.entries().count()) == (3, 2, 2)
             && !view.passed(paths, &z)
@@ -59,22 +65,22 @@ fn view_tells<A: Allocator + Copy>(paths: &Paths<A>, view: &View<A>) -> Option<b
 }
 
 fn held_tells<A: Allocator + Copy>(heap: &Heap, alloc: A, paths: &Paths<A>) -> Option<bool> {
-    let entries = change(alloc, paths.graph(), &[("a", 0, 3), ("az", 0, -1)])?;
-    let held = view(alloc, paths, &entries)?;
-    Some(unasked!(heap: view_tells(paths, &held)?))
+    let entries = some!(change(alloc, paths.graph(), &[("a", 0, 3), ("az", 0, -1)]));
+    let held = some!(view(alloc, paths, &entries));
+    Some(unasked!(heap: some!(view_tells(paths, &held))))
 }
 
 /// Returns whether a view of -1 at a has an empty frontier.
 fn less_tells<A: Allocator + Copy>(heap: &Heap, alloc: A, paths: &Paths<A>) -> Option<bool> {
-    let entry = change(alloc, paths.graph(), &[("a", 0, -1)])?;
-    let less = view(alloc, paths, &entry)?;
-    let frontier = unasked!(heap: less.frontier(alloc, paths).ok()?);
+    let entry = some!(change(alloc, paths.graph(), &[("a", 0, -1)]));
+    let less = some!(view(alloc, paths, &entry));
+    let frontier = unasked!(heap: ok!(less.frontier(alloc, paths)));
     Some(frontier.len() == 0)
 }
 
 fn views_tell<A: Allocator + Copy>(heap: &Heap, alloc: A, json: Global) -> Option<bool> {
-    let paths = paths_of(json, alloc, LINE)?;
-    Some(held_tells(heap, alloc, &paths)? && less_tells(heap, alloc, &paths)?)
+    let paths = some!(paths_of(json, alloc, LINE));
+    Some(some!(held_tells(heap, alloc, &paths)) && some!(less_tells(heap, alloc, &paths)))
 }
 
 /// Gives items other numbers, from item 0 on, then removes them, and returns how many are left.
@@ -85,28 +91,28 @@ fn left_of<A: Allocator + Copy>(
 ) -> Option<usize> {
     for number in [Some(2), None] {
         for item in 0..count {
-            set(state, time, item, number)?.ok()?;
+            ok!(some!(set(state, time, item, number)));
         }
     }
     Some(state.entries().count())
 }
 
 fn vertices_tell<A: Allocator + Copy>(heap: &Heap, alloc: A) -> Option<bool> {
-    let mut state = many(alloc, 100)?;
-    let time = time(&[0])?;
-    let left = unasked!(heap: left_of(&mut state, &time, 100)?);
+    let mut state = some!(many(alloc, 100));
+    let time = some!(time(&[0]));
+    let left = unasked!(heap: some!(left_of(&mut state, &time, 100)));
     Some(left == 0)
 }
 
 /// Returns whether the items that an effect takes out are removed, and the one that another adds.
 fn edits_tell<A: Allocator + Copy>(heap: &Heap, alloc: A) -> Option<bool> {
-    let time = time(&[0])?;
-    let mut full = many(alloc, 12)?;
-    let removes = full.on_notice(alloc, Op::Distinct, &time).ok()?;
+    let time = some!(time(&[0]));
+    let mut full = some!(many(alloc, 12));
+    let removes = ok!(full.on_notice(alloc, Op::Distinct, &time));
     let is_removed = unasked!(heap: full.commit(&removes).is_ok());
     let mut state = VertexState::new(alloc);
-    let adds = state.on_record(alloc, Op::Distinct, &time, 9).ok()?;
-    state.commit(&adds).ok()?;
+    let adds = ok!(state.on_record(alloc, Op::Distinct, &time, 9));
+    ok!(state.commit(&adds));
     let is_undone = unasked!(heap: state.revert(&adds).is_ok());
     Some(is_removed && is_undone)
 }
@@ -115,28 +121,28 @@ fn edits_tell<A: Allocator + Copy>(heap: &Heap, alloc: A) -> Option<bool> {
 /// ends.
 fn queues_give<A: Allocator + Copy>(mesh: &mut Mesh<A>) -> Option<bool> {
     let is_there = len(mesh, 1, 0) == Some(2);
-    let oldest = pop(mesh, 1, 0)?;
-    let is_newest = unpush(mesh, 1)?;
-    let is_empty = !unpush(mesh, 1)? && pop(mesh, 1, 0).is_none();
+    let oldest = some!(pop(mesh, 1, 0));
+    let is_newest = some!(unpush(mesh, 1));
+    let is_empty = !some!(unpush(mesh, 1)) && pop(mesh, 1, 0).is_none();
     Some(oldest.len() == 2 && is_there && is_newest && is_empty && len(mesh, 1, 1) == Some(1))
 }
 
 fn queues_tell<A: Allocator + Copy>(heap: &Heap, alloc: A, json: Global) -> Option<bool> {
-    let graph = graph_of(json, alloc, LINE)?;
-    let change = change(alloc, &graph, &[("a", 0, 1), ("z", 0, 1)])?;
-    let mut mesh = Mesh::new(alloc, 2).ok()?;
-    push(&mut mesh, 1, &change)?.ok()?;
-    push(&mut mesh, 1, &change)?.ok()?;
+    let graph = some!(graph_of(json, alloc, LINE));
+    let change = some!(change(alloc, &graph, &[("a", 0, 1), ("z", 0, 1)]));
+    let mut mesh = ok!(Mesh::new(alloc, 2));
+    ok!(some!(push(&mut mesh, 1, &change)));
+    ok!(some!(push(&mut mesh, 1, &change)));
     unasked!(heap: queues_give(&mut mesh))
 }
 
 /// Adds a record, a request, an item, a count of a sink and an unsent entry, and moves the token.
 fn adds<A: Allocator + Copy>(processor: &mut Processor<A>, key: &ValueAt) -> Option<()> {
-    processor.add_records(key, 1).ok()?;
-    processor.add_request(&key.point).ok()?;
-    set_item(processor, Some(3))?.ok()?;
-    processor.add_sink(2, 7, 1).ok()?;
-    processor.add_unsent(&key.point, -1).ok()?;
+    ok!(processor.add_records(key, 1));
+    ok!(processor.add_request(&key.point));
+    ok!(some!(set_item(processor, Some(3))));
+    ok!(processor.add_sink(2, 7, 1));
+    ok!(processor.add_unsent(&key.point, -1));
     move_token(processor, Some(1)).ok()
 }
 
@@ -146,9 +152,9 @@ pub fn holding<A: Allocator + Copy>(
     graph: &Graph<A>,
     key: &ValueAt,
 ) -> Option<Processor<A>> {
-    let mut processor = Processor::start(alloc, graph).ok()?;
-    adds(&mut processor, key)?;
-    processor.add_unsent(&point(graph, "z", &[0])?, 2).ok()?;
+    let mut processor = ok!(Processor::start(alloc, graph));
+    some!(adds(&mut processor, key));
+    ok!(processor.add_unsent(&some!(point(graph, "z", &[0])), 2));
     Some(processor)
 }
 
@@ -185,30 +191,30 @@ fn gives_up<A: Allocator + Copy>(
     processor.take_records(key, 2);
     processor.take_sink(2, 7, 2);
     processor.drop_request(&key.point);
-    set_item(processor, None)?.ok()?;
-    move_token(processor, None).ok()?;
-    move_token(processor, Some(0)).ok()?;
+    ok!(some!(set_item(processor, None)));
+    ok!(move_token(processor, None));
+    ok!(move_token(processor, Some(0)));
     Some(processor.first_record().is_none() && processor.unsent().len() == 1)
 }
 
 #[tactic(auto, using(crate::proofs::Parts::is_part))]
 fn processors_tell<A: Allocator + Copy>(heap: &Heap, alloc: A, json: Global) -> Option<bool> {
-    let graph = graph_of(json, alloc, DISTINCT)?;
-    let point = point(&graph, "ad", &[0])?;
+    let graph = some!(graph_of(json, alloc, DISTINCT));
+    let point = some!(point(&graph, "ad", &[0]));
     let key = ValueAt { point, value: 7 };
-    let mut processor = holding(alloc, &graph, &key)?;
-    unasked!(heap: adds(&mut processor, &key)?);
+    let mut processor = some!(holding(alloc, &graph, &key));
+    unasked!(heap: some!(adds(&mut processor, &key)));
     let is_told = unasked!(heap: processor_tells(&processor, &key));
     let Ok(part) = processor.unsent().part(alloc, &[key.point.copy()]) else {
         return None;
     };
-    let is_given = unasked!(heap: gives_up(&mut processor, &key, &part)?);
+    let is_given = unasked!(heap: some!(gives_up(&mut processor, &key, &part)));
     Some(is_told && is_given)
 }
 
 /// Returns whether three values to feed, made and copied, take no memory and stand in their order.
 fn values_tell<A: Allocator + Copy>(heap: &Heap, alloc: A) -> Option<bool> {
-    let three = unasked!(heap: values_of(alloc, &[7, 5, 7])?.copy(alloc).ok()?);
+    let three = unasked!(heap: ok!(some!(values_of(alloc, &[7, 5, 7])).copy(alloc)));
     Some(three.as_slice() == [7, 5, 7].as_slice())
 }
 
@@ -241,8 +247,8 @@ static STEPS: [Told; 3] = [
 
 /// Returns whether a cluster reports what there is after these steps.
 fn tells<A: Allocator + Copy>(cluster: &Cluster<A>) -> Option<bool> {
-    let az = point(cluster.graph(), "az", &[0])?;
-    let z = point(cluster.paths().graph(), "z", &[0])?;
+    let az = some!(point(cluster.graph(), "az", &[0]));
+    let z = some!(point(cluster.paths().graph(), "z", &[0]));
     let _ = cluster.n();
     let counts = (
         cluster.view(0).counts().len(),
@@ -262,11 +268,11 @@ fn tells<A: Allocator + Copy>(cluster: &Cluster<A>) -> Option<bool> {
 /// Returns whether it does so while every request for memory is refused, and whether the record of a step lists its
 /// entries.
 fn reads<A: Allocator + Copy>(heap: &Heap, json: Global, alloc: A) -> Option<bool> {
-    let cluster = reach(json, alloc, LINE, 1, &STEPS)?;
-    let step = step_of(alloc, cluster.graph(), &Told::Receive(0, 0))?;
-    let record = cluster.plan(&step).ok()?;
+    let cluster = some!(reach(json, alloc, LINE, 1, &STEPS));
+    let step = some!(step_of(alloc, cluster.graph(), &Told::Receive(0, 0)));
+    let record = ok!(cluster.plan(&step));
     let entries = unasked!(heap: record.entries());
-    Some(unasked!(heap: tells(&cluster)?) && entries > 0)
+    Some(unasked!(heap: some!(tells(&cluster))) && entries > 0)
 }
 
 #[test]

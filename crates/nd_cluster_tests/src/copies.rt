@@ -4,14 +4,14 @@
 use crate::refused::Heap;
 use nd_cluster::{Cluster, Next, Step};
 use nd_examples::{DISTINCT, is_state, make, start, state_text, values_of};
-use nd_testing::{Refusing, unasked};
+use nd_testing::{Refusing, ok, some, unasked};
 use std::alloc::{Allocator, Global};
 
 /// Executes a step, undoes it and executes it again.
 pub fn go<A: Allocator + Copy>(cluster: &mut Cluster<A>, step: &Step<A>) -> Option<()> {
-    let record = cluster.plan(step).ok()?;
-    cluster.commit(&record).ok()?;
-    cluster.back(&record).ok()?;
+    let record = ok!(cluster.plan(step));
+    ok!(cluster.commit(&record));
+    ok!(cluster.back(&record));
     make(cluster, step)
 }
 
@@ -26,14 +26,14 @@ fn grow<A: Allocator + Copy>(
         let feed = Step::Feed {
             p: 0,
             vertex: 0,
-            values: values_of(alloc, &[i64::from(value)])?,
+            values: some!(values_of(alloc, &[i64::from(value)])),
             next: Next::Next,
         };
-        go(cluster, &feed)?;
+        some!(go(cluster, &feed));
     }
     for _ in 0..steps {
-        if let Some(step) = cluster.first_enabled(0).ok()? {
-            go(cluster, &step)?;
+        if let Some(step) = ok!(cluster.first_enabled(0)) {
+            some!(go(cluster, &step));
         }
     }
     Some(())
@@ -41,8 +41,8 @@ fn grow<A: Allocator + Copy>(
 
 /// Returns a copy of a cluster that has grown.
 fn grown<A: Allocator + Copy>(alloc: A, base: &Cluster<A>) -> Option<Cluster<A>> {
-    let mut copy = base.copy(alloc).ok()?;
-    grow(alloc, &mut copy, 100, 400)?;
+    let mut copy = ok!(base.copy(alloc));
+    some!(grow(alloc, &mut copy, 100, 400));
     Some(copy)
 }
 
@@ -55,16 +55,16 @@ fn is_apart<A: Allocator + Copy>(
     json: Global,
     count: u32,
 ) -> Option<bool> {
-    let mut base = start(json, here, DISTINCT, 1)?;
-    grow(
+    let mut base = some!(start(json, here, DISTINCT, 1));
+    some!(grow(
         here,
         &mut base,
         count,
         count.saturating_mul(2).saturating_add(1),
-    )?;
-    let copy = unasked!(first: grown(there, &base)?);
-    grow(here, &mut base, 100, 400)?;
-    let text = state_text(json, &base)?;
+    ));
+    let copy = unasked!(first: some!(grown(there, &base)));
+    some!(grow(here, &mut base, 100, 400));
+    let text = some!(state_text(json, &base));
     Some(is_state(json, &copy, text.as_str()))
 }
 

@@ -10,7 +10,7 @@ use nd_graph::Graph;
 use nd_mesh::Mesh;
 use nd_paths::Paths;
 use nd_processor::{Processor, ValueAt};
-use nd_testing::{Refusing, unasked};
+use nd_testing::{Refusing, ok, some, unasked};
 use nd_view::View;
 use std::alloc::{Allocator, Global};
 
@@ -114,7 +114,7 @@ fn add_records<A: Allocator + Copy>(
     list: &[u32],
     n: u64,
 ) -> Option<()> {
-    let point = point(graph, name, list)?;
+    let point = some!(point(graph, name, list));
     processor.add_records(&ValueAt { point, value: 5 }, n).ok()
 }
 
@@ -126,7 +126,7 @@ fn add_unsent<A: Allocator + Copy>(
 ) -> Option<()> {
     let (name, epoch, n) = entry;
     processor
-        .add_unsent(&point(graph, name, &[*epoch])?, *n)
+        .add_unsent(&some!(point(graph, name, &[*epoch])), *n)
         .ok()
 }
 
@@ -136,11 +136,11 @@ fn before_feed<A: Allocator + Copy>(
     graph: &Graph<A>,
     row: &Feed,
 ) -> Option<Processor<A>> {
-    let mut processor = Processor::start(alloc, graph).ok()?;
+    let mut processor = ok!(Processor::start(alloc, graph));
     let old = processor.token(0);
-    processor.move_token(0, old, Some(row.0)).ok()?;
-    add_records(&mut processor, graph, "az", &[0], row.1)?;
-    add_unsent(&mut processor, graph, &row.2)?;
+    ok!(processor.move_token(0, old, Some(row.0)));
+    some!(add_records(&mut processor, graph, "az", &[0], row.1));
+    some!(add_unsent(&mut processor, graph, &row.2));
     Some(processor)
 }
 
@@ -151,12 +151,12 @@ fn before_step<A: Allocator + Copy>(
     name: &'static str,
     row: &AtVertex,
 ) -> Option<Processor<A>> {
-    let mut processor = Processor::start(alloc, graph).ok()?;
+    let mut processor = ok!(Processor::start(alloc, graph));
     for epoch in row.0 {
-        processor.add_request(&point(graph, name, &[*epoch])?).ok()?;
+        ok!(processor.add_request(&some!(point(graph, name, &[*epoch]))));
     }
     for (epoch, n) in row.1 {
-        add_unsent(&mut processor, graph, &(name, epoch, n))?;
+        some!(add_unsent(&mut processor, graph, &(name, epoch, n)));
     }
     Some(processor)
 }
@@ -167,10 +167,10 @@ fn before_send<A: Allocator + Copy>(
     graph: &Graph<A>,
     row: &Sending,
 ) -> Option<Processor<A>> {
-    let mut processor = Processor::start(alloc, graph).ok()?;
-    processor.add_request(&point(graph, "x", &[3])?).ok()?;
-    add_records(&mut processor, graph, "xy", &[row.0], row.1)?;
-    add_unsent(&mut processor, graph, &("xy", row.0, row.2))?;
+    let mut processor = ok!(Processor::start(alloc, graph));
+    ok!(processor.add_request(&some!(point(graph, "x", &[3]))));
+    some!(add_records(&mut processor, graph, "xy", &[row.0], row.1));
+    some!(add_unsent(&mut processor, graph, &("xy", row.0, row.2)));
     Some(processor)
 }
 
@@ -230,20 +230,20 @@ fn cluster_of<A: Allocator + Copy>(
     graph: &Graph<A>,
     processor: Processor<A>,
 ) -> Option<Cluster<A>> {
-    let paths = paths_of(alloc, graph)?;
+    let paths = some!(paths_of(alloc, graph));
     let mut processors = Vec::new(alloc);
-    processors.push(processor).ok()?;
-    let views = views_of(alloc, graph, &paths)?;
-    let mesh = queue_of(alloc)?;
+    ok!(processors.push(processor));
+    let views = some!(views_of(alloc, graph, &paths));
+    let mesh = some!(queue_of(alloc));
     unasked!(heap: Cluster::of_parts(alloc, graph, paths, processors, views, mesh))
 }
 
 /// Returns the number of the refusal of a step, 0 if it is executed.
 fn number_of<A: Allocator + Copy>(alloc: A, cluster: &mut Cluster<A>, told: &Told) -> Option<u64> {
-    let step = step_of(alloc, cluster.graph(), told)?;
+    let step = some!(step_of(alloc, cluster.graph(), told));
     match cluster.plan(&step) {
         Ok(record) => {
-            cluster.commit(&record).ok()?;
+            ok!(cluster.commit(&record));
             Some(0)
         }
         Err(refusal) => Some(refusal.code().number()),
@@ -257,9 +257,14 @@ fn of_feed<A: Allocator + Copy>(
     alloc: A,
     row: &Feed,
 ) -> Option<(u64, bool)> {
-    let graph = graph_of(json, alloc, LINE)?;
-    let mut cluster = cluster_of(heap, alloc, &graph, before_feed(alloc, &graph, row)?)?;
-    let number = number_of(alloc, &mut cluster, &Told::Feed(0, "a", row.3, row.4))?;
+    let graph = some!(graph_of(json, alloc, LINE));
+    let mut cluster = some!(cluster_of(
+        heap,
+        alloc,
+        &graph,
+        some!(before_feed(alloc, &graph, row))
+    ));
+    let number = some!(number_of(alloc, &mut cluster, &Told::Feed(0, "a", row.3, row.4)));
     let closed =
         "{\"processors\":[{\"items\":[],\"records\":[],\"requests\":[],\"sinks\":[],\"tokens\":[],\
          \"unsent\":[[\"a\",[4294967295],-1]],\"view\":[]}],\"queues\":[[[]]]}";
@@ -275,15 +280,25 @@ fn of_step<A: Allocator + Copy>(
     row: &AtVertex,
 ) -> Option<u64> {
     let (text, name) = at;
-    let graph = graph_of(json, alloc, text)?;
-    let mut cluster = cluster_of(heap, alloc, &graph, before_step(alloc, &graph, name, row)?)?;
+    let graph = some!(graph_of(json, alloc, text));
+    let mut cluster = some!(cluster_of(
+        heap,
+        alloc,
+        &graph,
+        some!(before_step(alloc, &graph, name, row))
+    ));
     number_of(alloc, &mut cluster, &row.2)
 }
 
 /// Returns the number of the refusal of a send.
 fn of_send<A: Allocator + Copy>(heap: &Heap, json: Global, alloc: A, row: &Sending) -> Option<u64> {
-    let graph = graph_of(json, alloc, TRACED)?;
-    let mut cluster = cluster_of(heap, alloc, &graph, before_send(alloc, &graph, row)?)?;
+    let graph = some!(graph_of(json, alloc, TRACED));
+    let mut cluster = some!(cluster_of(
+        heap,
+        alloc,
+        &graph,
+        some!(before_send(alloc, &graph, row))
+    ));
     let sent = Sent {
         time: &[3],
         at: row.3,
@@ -296,10 +311,10 @@ fn of_send<A: Allocator + Copy>(heap: &Heap, json: Global, alloc: A, row: &Sendi
 
 /// Returns the number of the refusal of a record that goes around once more at the last counter.
 fn of_round<A: Allocator + Copy>(heap: &Heap, json: Global, alloc: A) -> Option<u64> {
-    let graph = graph_of(json, alloc, LOOP)?;
-    let mut processor = Processor::start(alloc, &graph).ok()?;
-    add_records(&mut processor, &graph, "sf", &[0, u32::MAX], 1)?;
-    let mut cluster = cluster_of(heap, alloc, &graph, processor)?;
+    let graph = some!(graph_of(json, alloc, LOOP));
+    let mut processor = ok!(Processor::start(alloc, &graph));
+    some!(add_records(&mut processor, &graph, "sf", &[0, u32::MAX], 1));
+    let mut cluster = some!(cluster_of(heap, alloc, &graph, processor));
     number_of(alloc, &mut cluster, &Told::Take(0, "sf", &[0, u32::MAX], 5))
 }
 

@@ -8,7 +8,7 @@ use nd_examples::{
     HELD, HELD_MOVED, LINE, LOOP, SUM_NOTIFIED, Script, Sent, TRACED, Told, point, processors_of,
     start, step_of, values_of,
 };
-use nd_testing::{Refusing, in_turn};
+use nd_testing::{Refusing, in_turn, ok, some};
 use std::alloc::{Allocator, Global};
 
 /// The graph of an opaque vertex that starts with a capability, and a sink.
@@ -107,48 +107,48 @@ static RUNS: [Script; 9] = [
 
 /// Copies a step and its record.
 fn copy<A: Allocator + Copy>(alloc: A, cluster: &Cluster<A>, step: &Step<A>) -> Option<()> {
-    step.copy(alloc).ok()?;
-    cluster.plan(step).ok()?.copy(alloc).ok()?;
+    ok!(step.copy(alloc));
+    ok!(ok!(cluster.plan(step)).copy(alloc));
     Some(())
 }
 
 /// Lists the candidates and the moves, and chooses a step by lot, of each kind and of processor 0.
 fn choose<A: Allocator + Copy>(alloc: A, cluster: &Cluster<A>) -> Option<()> {
-    let only = Some(processors_of(alloc, &[0])?);
-    cluster.all_candidates(only.as_ref()).ok()?;
-    cluster.drawn_planned(1, only.as_ref()).ok()?;
+    let only = Some(some!(processors_of(alloc, &[0])));
+    ok!(cluster.all_candidates(only.as_ref()));
+    ok!(cluster.drawn_planned(1, only.as_ref()));
     let allowed = Allowed {
         feeds: true,
         releases: true,
     };
-    cluster.moves(allowed).ok()?;
+    ok!(cluster.moves(allowed));
     Some(())
 }
 
 /// Asks each question about a cluster, and copies it.
 fn ask<A: Allocator + Copy>(alloc: A, cluster: &Cluster<A>) -> Option<()> {
-    let z = point(cluster.graph(), "z", &[1])?;
+    let z = some!(point(cluster.graph(), "z", &[1]));
     if cluster.n() == 0 {
         return None;
     }
-    cluster.candidates().ok()?;
-    choose(alloc, cluster)?;
-    cluster.frontier_at(alloc, 0, z.location).ok()?;
-    cluster.why(alloc, 0, &z).ok()?;
-    cluster.why_before(alloc, 0, &z).ok()?;
-    cluster.copy(alloc).ok()?;
+    ok!(cluster.candidates());
+    some!(choose(alloc, cluster));
+    ok!(cluster.frontier_at(alloc, 0, z.location));
+    ok!(cluster.why(alloc, 0, &z));
+    ok!(cluster.why_before(alloc, 0, &z));
+    ok!(cluster.copy(alloc));
     Some(())
 }
 
 /// Executes the steps of a script, each after it was undone once, and asks the questions before each.
 fn run<A: Allocator + Copy>(alloc: A, json: Global, script: &Script) -> Option<()> {
     let (text, n, steps) = script;
-    let mut cluster = start(json, alloc, text, *n)?;
+    let mut cluster = some!(start(json, alloc, text, *n));
     for told in *steps {
-        let step = step_of(alloc, cluster.graph(), told)?;
-        copy(alloc, &cluster, &step)?;
-        ask(alloc, &cluster)?;
-        go(&mut cluster, &step)?;
+        let step = some!(step_of(alloc, cluster.graph(), told));
+        some!(copy(alloc, &cluster, &step));
+        some!(ask(alloc, &cluster));
+        some!(go(&mut cluster, &step));
     }
     ask(alloc, &cluster)
 }
@@ -175,9 +175,9 @@ fn runs_out_of_memory(rt: HostRuntime) {
 
 /// Makes lists of values and of processors, copies them, and adds to the copies.
 fn lists<A: Allocator + Copy>(alloc: A) -> Option<()> {
-    let mut values = values_of(alloc, &[1, 2, 3])?.copy(alloc).ok()?;
-    values.push(4).ok()?;
-    let mut only = processors_of(alloc, &[0, 1])?.copy(alloc).ok()?;
+    let mut values = ok!(some!(values_of(alloc, &[1, 2, 3])).copy(alloc));
+    ok!(values.push(4));
+    let mut only = ok!(some!(processors_of(alloc, &[0, 1])).copy(alloc));
     only.push(1).ok()
 }
 

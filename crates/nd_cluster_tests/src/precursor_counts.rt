@@ -6,6 +6,7 @@ use nd_delta::Delta;
 use nd_examples::{LINE, LOOP, change, paths_of, point};
 use nd_graph::Graph;
 use nd_paths::{Paths, Pointstamp};
+use nd_testing::{ok, some};
 use nd_time::Timestamp;
 use nd_view::View;
 use std::alloc::Global;
@@ -17,13 +18,13 @@ fn add_points(
     location: usize,
     epoch: u32,
 ) -> Option<()> {
-    let depth = *graph.depths().get(location)?;
+    let depth = *some!(graph.depths().get(location));
     for count in 0..3 {
         let counters = [count; 4];
-        let time = Timestamp::new(epoch, counters.get(..depth)?)?;
-        let point = Pointstamp::new(graph, location, time)?;
+        let time = some!(Timestamp::new(epoch, some!(counters.get(..depth))));
+        let point = some!(Pointstamp::new(graph, location, time));
         if !points.contains(&point) {
-            points.push(point).ok()?;
+            ok!(points.push(point));
         }
     }
     Some(())
@@ -34,7 +35,7 @@ fn points_of(alloc: Global, graph: &Graph) -> Option<Vec<Pointstamp>> {
     let mut points = Vec::new(alloc);
     for location in 0..graph.location_count() {
         for epoch in 0..2 {
-            add_points(graph, &mut points, location, epoch)?;
+            some!(add_points(graph, &mut points, location, epoch));
         }
     }
     Some(points)
@@ -52,9 +53,7 @@ fn drawn(alloc: Global, points: &[Pointstamp], mut seed: u64) -> Option<Delta> {
     for _ in 0..seed >> 40 & 3 {
         seed = next(seed);
         let place = (seed >> 33) as usize % points.len().max(1);
-        change
-            .add(points.get(place)?, (seed >> 60) as i64 % 5 - 2)
-            .ok()?;
+        ok!(change.add(some!(points.get(place)), (seed >> 60) as i64 % 5 - 2));
     }
     Some(change)
 }
@@ -122,20 +121,30 @@ fn tells_all(alloc: Global, view: &View, paths: &Paths, points: &[Pointstamp]) -
     true
 }
 
+/// Applies a change to a view or undoes it, and returns whether the view had room for it.
+fn is_changed(view: &mut View, paths: &Paths, change: &Delta, is_undone: bool) -> bool
+    requires { IsFor paths.now view.old }
+    ensures { IsFor paths.now view.new }
+{
+    if is_undone {
+        view.unapply(paths, change).is_ok()
+    } else {
+        view.apply(paths, change).is_ok()
+    }
+}
+
 /// Changes a view `times` times, and checks it after each change.
 fn mixed(alloc: Global, paths: &Paths, times: usize) -> Option<usize> {
-    let points = points_of(alloc, paths.graph())?;
+    let points = some!(points_of(alloc, paths.graph()));
     let mut view = View::new(alloc);
     let mut seed = 1;
     for turn in 0..times {
         seed = next(seed);
-        let change = drawn(alloc, &points, seed)?;
-        let done = if seed >> 45 & 1 == 0 {
-            view.apply(paths, &change)
-        } else {
-            view.unapply(paths, &change)
-        };
-        if done.is_err() || !tells_all(alloc, &view, paths, &points) {
+        let change = some!(drawn(alloc, &points, seed));
+        let is_undone = seed >> 45 & 1 == 1;
+        if !is_changed(&mut view, paths, &change, is_undone)
+            || !tells_all(alloc, &view, paths, &points)
+        {
             return Some(turn);
         }
     }
@@ -144,7 +153,7 @@ fn mixed(alloc: Global, paths: &Paths, times: usize) -> Option<usize> {
 
 /// Does so on *loop*.
 fn mixed_on_loop(alloc: Global, times: usize) -> Option<usize> {
-    mixed(alloc, &paths_of(alloc, alloc, LOOP)?, times)
+    mixed(alloc, &some!(paths_of(alloc, alloc, LOOP)), times)
 }
 
 #[test]
@@ -182,12 +191,15 @@ fn is_after(alloc: Global, view: &View, paths: &Paths, row: &Turn) -> Option<boo
 {
     let (_, _, entries, kept, first) = row;
     let graph = paths.graph();
-    let (a, az) = (point(graph, "a", &[0])?, point(graph, "az", &[0])?);
-    let z = point(graph, "z", &[0])?;
-    let frontier = view.frontier(alloc, paths).ok()?;
+    let (a, az) = (
+        some!(point(graph, "a", &[0])),
+        some!(point(graph, "az", &[0])),
+    );
+    let z = some!(point(graph, "z", &[0]));
+    let frontier = ok!(view.frontier(alloc, paths));
     let is_right = match first {
         Some(name) => {
-            let first = point(graph, name, &[0])?;
+            let first = some!(point(graph, name, &[0]));
             let count = frontier.get(&first);
             count > 0 && count == view.get(&first) && view.blocker(paths, &z) == Some(first)
         }
@@ -205,15 +217,12 @@ fn is_after(alloc: Global, view: &View, paths: &Paths, row: &Turn) -> Option<boo
 fn taken(alloc: Global, paths: &Paths) -> Option<usize> {
     let mut view = View::new(alloc);
     for turn in 0..TURNS.len() {
-        let row = TURNS.get(turn)?;
+        let row = some!(TURNS.get(turn));
         let (a, az) = row.0;
-        let change = change(alloc, paths.graph(), &[("a", 0, a), ("az", 0, az)])?;
-        let done = if row.1 {
-            view.unapply(paths, &change)
-        } else {
-            view.apply(paths, &change)
-        };
-        if done.is_err() || !is_after(alloc, &view, paths, row)? {
+        let change = some!(change(alloc, paths.graph(), &[("a", 0, a), ("az", 0, az)]));
+        if !is_changed(&mut view, paths, &change, row.1)
+            || !some!(is_after(alloc, &view, paths, row))
+        {
             return Some(turn);
         }
     }
@@ -222,7 +231,7 @@ fn taken(alloc: Global, paths: &Paths) -> Option<usize> {
 
 /// Does so on *line*.
 fn taken_on_line(alloc: Global) -> Option<usize> {
-    taken(alloc, &paths_of(alloc, alloc, LINE)?)
+    taken(alloc, &some!(paths_of(alloc, alloc, LINE)))
 }
 
 #[test]

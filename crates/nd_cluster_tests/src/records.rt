@@ -3,12 +3,13 @@
 
 use nd_cluster::{Changes, Cluster, Next, Record, StartFault, Step};
 use nd_examples::{ADD, EXCHANGE, LINE, LOOP, SUM, Sent, TRACED, Told, graph_of, reach, step_of};
+use nd_testing::{ok, some};
 use std::alloc::Global;
 use std::mem::size_of;
 
 /// Returns why a cluster of n processors does not start on a line, if it does not.
 fn fault_of(alloc: Global, n: u32) -> Option<StartFault> {
-    Cluster::start(alloc, graph_of(alloc, alloc, LINE)?, n).err()
+    Cluster::start(alloc, some!(graph_of(alloc, alloc, LINE)), n).err()
 }
 
 /// Checks the worked example *processor-counts*, of numbers that no words ask for.
@@ -99,9 +100,9 @@ static ROWS: [Row; 12] = [
 /// Returns whether the record of the last step of a row is as the row says.
 fn is_recorded(alloc: Global, row: &Row) -> Option<bool> {
     let (text, n, steps, count, entries, is_flow) = row;
-    let (last, before) = steps.get(..*count)?.split_last()?;
-    let cluster = reach(alloc, alloc, text, *n, before)?;
-    let record = cluster.plan(&step_of(alloc, cluster.graph(), last)?).ok()?;
+    let (last, before) = some!(some!(steps.get(..*count)).split_last());
+    let cluster = some!(reach(alloc, alloc, text, *n, before));
+    let record = ok!(cluster.plan(&some!(step_of(alloc, cluster.graph(), last))));
     let keeps_flow = matches!(record.changes, Changes::Flowed(_));
     Some(record.entries() == *entries && keeps_flow == *is_flow)
 }
@@ -132,9 +133,9 @@ static FEEDS: [(&'static [i64], Next, bool); 10] = [
 /// Returns whether the small record of a feed of *line*, after another, has no list.
 fn keeps_no_list(alloc: Global, before: Next, values: &'static [i64], next: Next) -> Option<bool> {
     let before = [Told::Feed(0, "a", &[7], before)];
-    let cluster = reach(alloc, alloc, LINE, 1, &before)?;
-    let step = step_of(alloc, cluster.graph(), &Told::Feed(0, "a", values, next))?;
-    let record = cluster.plan(&step).ok()?.small();
+    let cluster = some!(reach(alloc, alloc, LINE, 1, &before));
+    let step = some!(step_of(alloc, cluster.graph(), &Told::Feed(0, "a", values, next)));
+    let record = ok!(cluster.plan(&step)).small();
     Some(matches!(record.changes, Changes::Fed(_)))
 }
 

@@ -13,7 +13,7 @@ use nd_graph::{Graph, GraphDraft, Op};
 use nd_mesh::Mesh;
 use nd_paths::{Paths, Pointstamp};
 use nd_processor::{Processor, ValueAt};
-use nd_testing::{Refusing, in_turn};
+use nd_testing::{Refusing, in_turn, ok, some};
 use nd_vertex::{Effect, VertexState};
 use nd_view::View;
 use serde_json::Value;
@@ -54,21 +54,21 @@ static PARTS: [Part; 11] = [
 
 /// Reads and checks a graph in each version.
 fn graphs<A: Allocator + Copy>(alloc: A, json: Global) -> Option<()> {
-    let value = Value::from_str(json, LOOP).ok()?;
-    let draft = GraphDraft::from_value_v4(alloc, &value).ok()?;
-    draft.check_v1(alloc).ok()?;
-    let draft = GraphDraft::from_value_v5(alloc, &value).ok()?;
-    draft.check_v5(alloc).ok()?;
-    let draft = GraphDraft::from_value(alloc, &value).ok()?;
-    draft.check(alloc).ok()?;
+    let value = ok!(Value::from_str(json, LOOP));
+    let draft = ok!(GraphDraft::from_value_v4(alloc, &value));
+    ok!(draft.check_v1(alloc));
+    let draft = ok!(GraphDraft::from_value_v5(alloc, &value));
+    ok!(draft.check_v5(alloc));
+    let draft = ok!(GraphDraft::from_value(alloc, &value));
+    ok!(draft.check(alloc));
     Some(())
 }
 
 /// Copies a graph and its paths.
 fn paths<A: Allocator + Copy>(alloc: A, json: Global) -> Option<()> {
-    let paths = paths_of(json, alloc, LOOP)?;
-    paths.graph().copy(alloc).ok()?;
-    paths.copy(alloc).ok()?;
+    let paths = some!(paths_of(json, alloc, LOOP));
+    ok!(paths.graph().copy(alloc));
+    ok!(paths.copy(alloc));
     Some(())
 }
 
@@ -79,23 +79,23 @@ fn combine<A: Allocator + Copy>(
     other: &Delta<A>,
     az: &Pointstamp,
 ) -> Option<()> {
-    one.plus(alloc, other).ok()?;
-    one.minus(alloc, other).ok()?;
-    other.part(alloc, &[az.copy()]).ok()?;
-    one.copy(alloc).ok()?.add(az, 1).ok()
+    ok!(one.plus(alloc, other));
+    ok!(one.minus(alloc, other));
+    ok!(other.part(alloc, &[az.copy()]));
+    ok!(one.copy(alloc)).add(az, 1).ok()
 }
 
 fn changes<A: Allocator + Copy>(alloc: A, graph: &Graph<A>) -> Option<()> {
-    let one = change(alloc, graph, &[("a", 0, 1), ("z", 0, 1)])?;
-    let other = change(alloc, graph, &[("az", 0, 1)])?;
-    combine(alloc, &one, &other, &point(graph, "az", &[0])?)
+    let one = some!(change(alloc, graph, &[("a", 0, 1), ("z", 0, 1)]));
+    let other = some!(change(alloc, graph, &[("az", 0, 1)]));
+    combine(alloc, &one, &other, &some!(point(graph, "az", &[0])))
 }
 
 fn large_changes<A: Allocator + Copy>(alloc: A, graph: &Graph<A>) -> Option<()> {
-    let other = change(alloc, graph, &[("az", 0, 1)])?;
+    let other = some!(change(alloc, graph, &[("az", 0, 1)]));
     let mut large = LargeDelta::new(alloc);
-    large.add(&point(graph, "a", &[0])?, 1).ok()?;
-    large.combine(alloc, &other, false).ok()?;
+    ok!(large.add(&some!(point(graph, "a", &[0])), 1));
+    ok!(large.combine(alloc, &other, false));
     Some(())
 }
 
@@ -103,7 +103,7 @@ fn large_changes<A: Allocator + Copy>(alloc: A, graph: &Graph<A>) -> Option<()> 
 fn many_entries<A: Allocator + Copy>(alloc: A, graph: &Graph<A>) -> Option<Delta<A>> {
     let mut made = Delta::new(alloc);
     for epoch in 0..201 {
-        made.add(&point(graph, "z", &[epoch])?, 1).ok()?;
+        ok!(made.add(&some!(point(graph, "z", &[epoch])), 1));
     }
     Some(made)
 }
@@ -117,45 +117,45 @@ fn change_view<A: Allocator + Copy>(
 ) -> Option<()>
     requires { IsFor paths.now view.old }
 {
-    view.unapply(paths, change).ok()?;
-    view.apply(paths, change).ok()?;
-    view.apply(paths, change).ok()?;
-    view.frontier(alloc, paths).ok()?;
-    view.copy(alloc).ok()?;
+    ok!(view.unapply(paths, change));
+    ok!(view.apply(paths, change));
+    ok!(view.apply(paths, change));
+    ok!(view.frontier(alloc, paths));
+    ok!(view.copy(alloc));
     Some(())
 }
 
 fn views<A: Allocator + Copy>(alloc: A, paths: &Paths<A>) -> Option<()> {
-    let few = change(
+    let few = some!(change(
         alloc,
         paths.graph(),
         &[("a", 0, -2), ("z", 1, 1), ("az", 2, 1)],
-    )?;
-    let mut view = view(alloc, paths, &few)?;
+    ));
+    let mut view = some!(view(alloc, paths, &few));
     change_view(alloc, paths, &mut view, &few)
 }
 
 fn large_views<A: Allocator + Copy>(alloc: A, paths: &Paths<A>) -> Option<()> {
-    let many = many_entries(alloc, paths.graph())?;
-    view(alloc, paths, &many)?;
+    let many = some!(many_entries(alloc, paths.graph()));
+    some!(view(alloc, paths, &many));
     Some(())
 }
 
 fn queues<A: Allocator + Copy>(alloc: A, graph: &Graph<A>) -> Option<()> {
-    let change = change(alloc, graph, &[("a", 0, 1), ("z", 0, 1)])?;
-    let mut mesh = Mesh::new(alloc, 2).ok()?;
-    push(&mut mesh, 0, &change)?.ok()?;
-    unpop(&mut mesh, 1, 0, change)?.ok()?;
-    mesh.copy(alloc).ok()?;
+    let change = some!(change(alloc, graph, &[("a", 0, 1), ("z", 0, 1)]));
+    let mut mesh = ok!(Mesh::new(alloc, 2));
+    ok!(some!(push(&mut mesh, 0, &change)));
+    ok!(some!(unpop(&mut mesh, 1, 0, change)));
+    ok!(mesh.copy(alloc));
     Some(())
 }
 
 /// Returns the state of a vertex with the items below `count` at epoch 0; 12 are more than one node of a tree holds.
 pub fn many<A: Allocator + Copy>(alloc: A, count: i64) -> Option<VertexState<A>> {
     let mut state = VertexState::new(alloc);
-    let time = time(&[0])?;
+    let time = some!(time(&[0]));
     for item in 0..count {
-        set(&mut state, &time, item, Some(1))?.ok()?;
+        ok!(some!(set(&mut state, &time, item, Some(1))));
     }
     Some(state)
 }
@@ -164,44 +164,44 @@ pub fn many<A: Allocator + Copy>(alloc: A, count: i64) -> Option<VertexState<A>>
 fn edit<A: Allocator + Copy>(alloc: A, state: &mut VertexState<A>, effect: &Effect<A>) -> Option<()>
     requires { CanEdit state.old effect.now.items.items }
 {
-    state.commit(effect).ok()?;
-    state.copy(alloc).ok()?.revert(effect).ok()
+    ok!(state.commit(effect));
+    ok!(state.copy(alloc)).revert(effect).ok()
 }
 
 /// Has a vertex act on a record, which adds an item.
 fn vertices<A: Allocator + Copy>(alloc: A) -> Option<()> {
     let mut state = VertexState::new(alloc);
-    let effect = state.on_record(alloc, Op::Distinct, &time(&[0])?, 9).ok()?;
+    let effect = ok!(state.on_record(alloc, Op::Distinct, &some!(time(&[0])), 9));
     edit(alloc, &mut state, &effect)
 }
 
 /// Has a vertex act on a notification, which removes its items.
 fn full_vertices<A: Allocator + Copy>(alloc: A) -> Option<()> {
-    let mut state = many(alloc, 12)?;
-    let effect = state.on_notice(alloc, Op::Distinct, &time(&[0])?).ok()?;
+    let mut state = some!(many(alloc, 12));
+    let effect = ok!(state.on_notice(alloc, Op::Distinct, &some!(time(&[0]))));
     edit(alloc, &mut state, &effect)
 }
 
 /// Copies a processor to which something of each kind is added, and the points of its tokens.
 fn processors<A: Allocator + Copy>(alloc: A, graph: &Graph<A>) -> Option<()> {
-    let point = point(graph, "ad", &[0])?;
-    let processor = holding(alloc, graph, &ValueAt { point, value: 7 })?;
-    processor.token_points(alloc).ok()?;
-    processor.copy(alloc).ok()?;
+    let point = some!(point(graph, "ad", &[0]));
+    let processor = some!(holding(alloc, graph, &ValueAt { point, value: 7 }));
+    ok!(processor.token_points(alloc));
+    ok!(processor.copy(alloc));
     Some(())
 }
 
 /// Removes what is unsent, more entries than one node of a tree holds, and puts it back in a copy.
 fn parts<A: Allocator + Copy>(alloc: A, graph: &Graph<A>) -> Option<()> {
-    let mut processor = Processor::start(alloc, graph).ok()?;
+    let mut processor = ok!(Processor::start(alloc, graph));
     for epoch in 0..40 {
-        processor.add_unsent(&point(graph, "z", &[epoch])?, 2).ok()?;
+        ok!(processor.add_unsent(&some!(point(graph, "z", &[epoch])), 2));
     }
     put_back(alloc, &mut processor)
 }
 
 fn put_back<A: Allocator + Copy>(alloc: A, processor: &mut Processor<A>) -> Option<()> {
-    let part = take_all(processor, alloc)?;
+    let part = some!(take_all(processor, alloc));
     let Ok(mut left) = processor.copy(alloc) else {
         return None;
     };
@@ -213,15 +213,15 @@ fn ask<A: Allocator + Copy>(alloc: A, json: Global, part: &Part) -> Option<()> {
     match part {
         Part::Graphs => graphs(alloc, json),
         Part::Paths => paths(alloc, json),
-        Part::Changes => changes(alloc, &graph_of(json, alloc, LINE)?),
-        Part::LargeChanges => large_changes(alloc, &graph_of(json, alloc, LINE)?),
-        Part::Views => views(alloc, &paths_of(json, alloc, LINE)?),
-        Part::LargeViews => large_views(alloc, &paths_of(json, alloc, LINE)?),
-        Part::Queues => queues(alloc, &graph_of(json, alloc, LINE)?),
+        Part::Changes => changes(alloc, &some!(graph_of(json, alloc, LINE))),
+        Part::LargeChanges => large_changes(alloc, &some!(graph_of(json, alloc, LINE))),
+        Part::Views => views(alloc, &some!(paths_of(json, alloc, LINE))),
+        Part::LargeViews => large_views(alloc, &some!(paths_of(json, alloc, LINE))),
+        Part::Queues => queues(alloc, &some!(graph_of(json, alloc, LINE))),
         Part::Vertices => vertices(alloc),
         Part::FullVertices => full_vertices(alloc),
-        Part::Processors => processors(alloc, &graph_of(json, alloc, DISTINCT)?),
-        Part::Parts => parts(alloc, &graph_of(json, alloc, DISTINCT)?),
+        Part::Processors => processors(alloc, &some!(graph_of(json, alloc, DISTINCT))),
+        Part::Parts => parts(alloc, &some!(graph_of(json, alloc, DISTINCT))),
     }
 }
 

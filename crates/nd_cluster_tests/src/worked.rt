@@ -8,6 +8,7 @@ use nd_examples::{
 };
 use nd_mesh::{LIMIT, Mesh, PushFault};
 use nd_paths::{Constants, Paths, Summary};
+use nd_testing::{ok, some};
 use std::alloc::Global;
 
 /// Builds a summary, or returns `None` if there are too many constants.
@@ -15,14 +16,14 @@ fn summary(keep: usize, add: u32, constants: &[u32]) -> Option<Summary> {
     Some(Summary {
         keep,
         add,
-        constants: Constants::new(constants)?,
+        constants: some!(Constants::new(constants)),
     })
 }
 
 /// Returns whether the summaries from one location to another are `wanted`.
 fn are_summaries(paths: &Paths, from: &str, to: &str, wanted: &[Summary]) -> Option<bool> {
     let graph = paths.graph();
-    let (from, to) = (graph.location_of(from)?, graph.location_of(to)?);
+    let (from, to) = (some!(graph.location_of(from)), some!(graph.location_of(to)));
     if from >= graph.location_count() || to >= graph.location_count() {
         return None;
     }
@@ -33,14 +34,14 @@ fn are_summaries(paths: &Paths, from: &str, to: &str, wanted: &[Summary]) -> Opt
 /// Returns whether the summaries of *loop* and of *two-ways* are as the examples say: of a path into the loop, of one
 /// around it, and of two ways, one that keeps the counter and one that drops it.
 fn are_all(alloc: Global) -> Option<bool> {
-    let enters = summary(0, 0, &[1])?;
-    let stays = summary(1, 0, &[])?;
-    let one = paths_of(alloc, alloc, LOOP)?;
-    let two = paths_of(alloc, alloc, TWO_WAYS)?;
+    let enters = some!(summary(0, 0, &[1]));
+    let stays = some!(summary(1, 0, &[]));
+    let one = some!(paths_of(alloc, alloc, LOOP));
+    let two = some!(paths_of(alloc, alloc, TWO_WAYS));
     Some(
-        are_summaries(&one, "a", "fm", &[enters.copy()])?
-            && are_summaries(&one, "f", "f", &[stays.copy()])?
-            && are_summaries(&two, "x", "z", &[stays, enters])?,
+        some!(are_summaries(&one, "a", "fm", &[enters.copy()]))
+            && some!(are_summaries(&one, "f", "f", &[stays.copy()]))
+            && some!(are_summaries(&two, "x", "z", &[stays, enters])),
     )
 }
 
@@ -52,32 +53,32 @@ fn summaries(rt: HostRuntime) {
 
 /// Returns whether what is added at a point is kept up to the limit.
 fn is_limited(alloc: Global) -> Option<bool> {
-    let graph = graph_of(alloc, alloc, LINE)?;
-    let p = point(&graph, "a", &[0])?;
+    let graph = some!(graph_of(alloc, alloc, LINE));
+    let p = some!(point(&graph, "a", &[0]));
     let mut delta = Delta::new(alloc);
-    delta.add(&p, 1_099_511_627_776).ok()?;
+    ok!(delta.add(&p, 1_099_511_627_776));
     let is_full = delta.add(&p, 1) == Err(DeltaFault::DeltaFull);
     let is_kept = delta.get(&p) == 1_099_511_627_776;
-    delta.add(&p, -1_099_511_627_776).ok()?;
+    ok!(delta.add(&p, -1_099_511_627_776));
     Some(is_full && is_kept && delta.len() == 0)
 }
 
 /// Returns whether the sums, the differences and the part of two changes are what they should be.
 fn sums(alloc: Global) -> Option<bool> {
-    let graph = graph_of(alloc, alloc, LINE)?;
-    let r = point(&graph, "z", &[0])?;
-    let one = change(alloc, &graph, &[("a", 0, 2)])?;
-    let other = change(alloc, &graph, &[("a", 0, -2), ("z", 0, 1)])?;
+    let graph = some!(graph_of(alloc, alloc, LINE));
+    let r = some!(point(&graph, "z", &[0]));
+    let one = some!(change(alloc, &graph, &[("a", 0, 2)]));
+    let other = some!(change(alloc, &graph, &[("a", 0, -2), ("z", 0, 1)]));
     let mut large = LargeDelta::new(alloc);
-    large.put(&point(&graph, "a", &[0])?, 2).ok()?;
-    let sum = large.combine(alloc, &other, false).ok()?.whole(alloc).ok()?;
-    let difference = large.combine(alloc, &other, true).ok()?.whole(alloc).ok()?;
-    let part = other.part(alloc, &[r.copy(), r]).ok()?;
+    ok!(large.put(&some!(point(&graph, "a", &[0])), 2));
+    let sum = ok!(ok!(large.combine(alloc, &other, false)).whole(alloc));
+    let difference = ok!(ok!(large.combine(alloc, &other, true)).whole(alloc));
+    let part = ok!(other.part(alloc, &[r.copy(), r]));
     Some(
         are_entries(&graph, sum.entries(), &[("z", 0, 1)])
             && are_entries(&graph, difference.entries(), &[("a", 0, 4), ("z", 0, -1)])
-            && one.plus(alloc, &other).ok()?.entries() == sum.entries()
-            && one.minus(alloc, &other).ok()?.entries() == difference.entries()
+            && ok!(one.plus(alloc, &other)).entries() == sum.entries()
+            && ok!(one.minus(alloc, &other)).entries() == difference.entries()
             && part.entries() == sum.entries(),
     )
 }
@@ -91,7 +92,7 @@ fn change_limits(rt: HostRuntime) {
 /// Pushes the change until the queue refuses it: how often it took it, if it is full then.
 fn pushed(mesh: &mut Mesh, change: &Delta) -> Option<usize> {
     for n in 0..=LIMIT {
-        match push(mesh, 0, change)? {
+        match some!(push(mesh, 0, change)) {
             Ok(()) => {}
             Err(PushFault::QueueFull) => return Some(n),
             Err(_) => return None,
@@ -102,12 +103,12 @@ fn pushed(mesh: &mut Mesh, change: &Delta) -> Option<usize> {
 
 /// Returns whether a queue takes changes up to the limit, and one more once one is out.
 fn is_full_at_the_limit(alloc: Global) -> Option<bool> {
-    let graph = graph_of(alloc, alloc, LINE)?;
-    let change = change(alloc, &graph, &[("a", 0, 1)])?;
-    let mut mesh = Mesh::new(alloc, 1).ok()?;
-    let is_full = pushed(&mut mesh, &change)? == LIMIT;
-    pop(&mut mesh, 0, 0)?;
-    Some(is_full && push(&mut mesh, 0, &change)?.is_ok())
+    let graph = some!(graph_of(alloc, alloc, LINE));
+    let change = some!(change(alloc, &graph, &[("a", 0, 1)]));
+    let mut mesh = ok!(Mesh::new(alloc, 1));
+    let is_full = some!(pushed(&mut mesh, &change)) == LIMIT;
+    some!(pop(&mut mesh, 0, 0));
+    Some(is_full && some!(push(&mut mesh, 0, &change)).is_ok())
 }
 
 #[test]
@@ -117,20 +118,23 @@ fn queue_ends(rt: HostRuntime) {
 
 /// Returns whether a change passes through new queues of one processor, and back.
 fn goes_through(alloc: Global, change: &Delta) -> Option<bool> {
-    let mut mesh = Mesh::new(alloc, 1).ok()?;
-    let is_new = pop(&mut mesh, 0, 0).is_none() && !unpush(&mut mesh, 0)?;
-    push(&mut mesh, 0, change)?.ok()?;
-    let popped = pop(&mut mesh, 0, 0)?;
+    let mut mesh = ok!(Mesh::new(alloc, 1));
+    let is_new = pop(&mut mesh, 0, 0).is_none() && !some!(unpush(&mut mesh, 0));
+    ok!(some!(push(&mut mesh, 0, change)));
+    let popped = some!(pop(&mut mesh, 0, 0));
     let is_same = popped.entries() == change.entries();
-    unpop(&mut mesh, 0, 0, popped)?.ok()?;
-    let is_put = len(&mesh, 0, 0) == Some(1) && unpush(&mut mesh, 0)?;
+    ok!(some!(unpop(&mut mesh, 0, 0, popped)));
+    let is_put = len(&mesh, 0, 0) == Some(1) && some!(unpush(&mut mesh, 0));
     Some(is_new && is_same && is_put && len(&mesh, 0, 0) == Some(0))
 }
 
 /// Does the same for a change of two entries.
 fn two_go_through(alloc: Global) -> Option<bool> {
-    let graph = graph_of(alloc, alloc, LINE)?;
-    goes_through(alloc, &change(alloc, &graph, &[("a", 0, -1), ("z", 0, 2)])?)
+    let graph = some!(graph_of(alloc, alloc, LINE));
+    goes_through(
+        alloc,
+        &some!(change(alloc, &graph, &[("a", 0, -1), ("z", 0, 2)])),
+    )
 }
 
 #[test]
@@ -171,11 +175,11 @@ static ROWS: [Row; 4] = [
 /// Returns whether a row has so many candidates and moves, and whether each lot chooses a candidate, if there is one.
 fn has_moves(alloc: Global, row: &Row) -> Option<bool> {
     let ((text, n, steps), allowed, candidates, moves) = row;
-    let cluster = reach(alloc, alloc, text, *n, steps)?;
-    let only = Some(processors_of(alloc, &[0])?);
-    let count = cluster.all_candidates(only.as_ref()).ok()?.len();
-    let drawn = cluster.drawn_planned(u64::MAX, only.as_ref()).ok()?;
-    let found = cluster.moves(*allowed).ok()?.len();
+    let cluster = some!(reach(alloc, alloc, text, *n, steps));
+    let only = Some(some!(processors_of(alloc, &[0])));
+    let count = ok!(cluster.all_candidates(only.as_ref())).len();
+    let drawn = ok!(cluster.drawn_planned(u64::MAX, only.as_ref()));
+    let found = ok!(cluster.moves(*allowed)).len();
     Some((count, found) == (*candidates, *moves) && drawn.is_some() == (count > 0))
 }
 

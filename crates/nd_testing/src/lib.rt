@@ -4,6 +4,7 @@
 mod allocator;
 mod requests;
 mod signal;
+mod values;
 
 pub use allocator::Refusing;
 pub use requests::MANY;

@@ -7,7 +7,7 @@ use nd_cluster::Next;
 use nd_examples::{LINE, Told, graph_of, is_state, state_text};
 use nd_graph::Graph;
 use nd_session::{Client, Session};
-use nd_testing::{MANY, Refusing};
+use nd_testing::{MANY, Refusing, ok, some};
 use nd_timeline::{Fault, Reply};
 use std::alloc::{Allocator, Global};
 use std::sync::Wait;
@@ -67,11 +67,9 @@ fn issue<A: Allocator + Copy, R: Wait>(
     client: &mut Client<A>,
     asked: &Asked,
 ) -> Option<()> {
-    let command = command_of(setup.alloc, graph, asked)?;
-    let receipt = session
-        .command(setup.rt, setup.alloc, client, command)
-        .ok()?;
-    receipt.copy(setup.alloc).ok()?;
+    let command = some!(command_of(setup.alloc, graph, asked));
+    let receipt = ok!(session.command(setup.rt, setup.alloc, client, command));
+    ok!(receipt.copy(setup.alloc));
     match receipt.reply {
         Reply::Refused(Fault::Memory { .. }) => None,
         _ => Some(()),
@@ -87,9 +85,9 @@ fn issue_all<A: Allocator + Copy, R: Wait>(
     list: &[Asked],
 ) -> Option<()> {
     for asked in list {
-        issue(setup, graph, session, client, asked)?;
+        some!(issue(setup, graph, session, client, asked));
     }
-    session.copy(setup.rt, setup.alloc, client).ok()?;
+    ok!(session.copy(setup.rt, setup.alloc, client));
     Some(())
 }
 
@@ -100,22 +98,20 @@ fn is_replayed<A: Allocator + Copy, R: Wait>(
     session: &Session<A>,
     client: &Client<A>,
 ) -> Option<bool> {
-    let again = session_of(setup.json, setup.alloc, LINE, 1)?;
-    let mut other = again.enter(setup.rt, setup.alloc).ok()?;
+    let again = some!(session_of(setup.json, setup.alloc, LINE, 1));
+    let mut other = ok!(again.enter(setup.rt, setup.alloc));
     for receipt in client.receipts() {
         if let Reply::Refused(Fault::Memory { .. }) = receipt.reply {
             return Some(true);
         }
-        let command = receipt.command.copy(setup.alloc).ok()?;
-        again
-            .command(setup.rt, setup.alloc, &mut other, command)
-            .ok()?;
+        let command = ok!(receipt.command.copy(setup.alloc));
+        ok!(again.command(setup.rt, setup.alloc, &mut other, command));
     }
-    let wanted = again.copy(setup.rt, setup.alloc, &other).ok()?;
-    let found = session.copy(setup.rt, setup.alloc, client).ok()?;
+    let wanted = ok!(again.copy(setup.rt, setup.alloc, &other));
+    let found = ok!(session.copy(setup.rt, setup.alloc, client));
     let is_there = wanted.index() == found.index() && wanted.at() == found.at();
     let is_kept = wanted.kept() == found.kept();
-    let text = state_text(setup.json, wanted.cluster())?;
+    let text = some!(state_text(setup.json, wanted.cluster()));
     Some(is_there && is_kept && is_state(setup.json, found.cluster(), text.as_str()))
 }
 
@@ -123,8 +119,8 @@ fn is_replayed<A: Allocator + Copy, R: Wait>(
 fn closes<A: Allocator + Copy>(alloc: A, session: Session<A>, client: Client<A>) -> Option<bool> {
     let entries = client.receipts().len();
     let mut clients = Vec::new(alloc);
-    clients.push(client).ok()?;
-    Some(session.close(clients).ok()?.entries.len() == entries)
+    ok!(clients.push(client));
+    Some(ok!(session.close(clients)).entries.len() == entries)
 }
 
 /// Returns whether commands met the refused request. In both cases the session is where its log leads, and closes with the
@@ -134,14 +130,14 @@ fn commands<A: Allocator + Copy, R: Wait>(
     list: &[Asked],
     n: u64,
 ) -> Option<bool> {
-    let graph = graph_of(setup.json, setup.alloc, LINE)?;
-    let session = session_of(setup.json, setup.alloc, LINE, 1)?;
-    let mut client = session.enter(setup.rt, setup.alloc).ok()?;
+    let graph = some!(graph_of(setup.json, setup.alloc, LINE));
+    let session = some!(session_of(setup.json, setup.alloc, LINE, 1));
+    let mut client = ok!(session.enter(setup.rt, setup.alloc));
     setup.heap.refuse(n);
     let is_done = issue_all(setup, &graph, &session, &mut client, list).is_some();
     let met = setup.heap.relent(n);
-    let is_replayed = is_replayed(setup, &session, &client)?;
-    let is_closed = closes(setup.alloc, session, client)?;
+    let is_replayed = some!(is_replayed(setup, &session, &client));
+    let is_closed = some!(closes(setup.alloc, session, client));
     if is_replayed && is_closed && met != is_done {
         Some(met)
     } else {
@@ -151,11 +147,11 @@ fn commands<A: Allocator + Copy, R: Wait>(
 
 /// Returns whether entering met the refused request. The next client gets the number that was due.
 fn enters<A: Allocator + Copy, R: Wait>(setup: &Setup<A, R>, n: u64) -> Option<bool> {
-    let session = session_of(setup.json, setup.alloc, LINE, 1)?;
+    let session = some!(session_of(setup.json, setup.alloc, LINE, 1));
     setup.heap.refuse(n);
     let is_in = session.enter(setup.rt, setup.alloc).is_ok();
     let met = setup.heap.relent(n);
-    let next = session.enter(setup.rt, setup.alloc).ok()?.number();
+    let next = ok!(session.enter(setup.rt, setup.alloc)).number();
     if met != is_in && next == u64::from(is_in) {
         Some(met)
     } else {
@@ -168,23 +164,23 @@ fn driven<A: Allocator + Copy, R: Wait>(
     setup: &Setup<A, R>,
     asked: Asked,
 ) -> Option<(Session<A>, Client<A>)> {
-    let graph = graph_of(setup.json, setup.alloc, LINE)?;
-    let session = session_of(setup.json, setup.alloc, LINE, 1)?;
-    let mut client = session.enter(setup.rt, setup.alloc).ok()?;
-    issue(setup, &graph, &session, &mut client, &asked)?;
+    let graph = some!(graph_of(setup.json, setup.alloc, LINE));
+    let session = some!(session_of(setup.json, setup.alloc, LINE, 1));
+    let mut client = ok!(session.enter(setup.rt, setup.alloc));
+    some!(issue(setup, &graph, &session, &mut client, &asked));
     Some((session, client))
 }
 
 /// Returns whether a copy for a client of another session met the refused request. The error is that of such a client, or
 /// out of memory.
 fn copies_for_stranger<A: Allocator + Copy, R: Wait>(setup: &Setup<A, R>, n: u64) -> Option<bool> {
-    let (_, stranger) = driven(setup, Asked::Back)?;
-    let (session, _) = driven(setup, FEED)?;
+    let (_, stranger) = some!(driven(setup, Asked::Back));
+    let (session, _) = some!(driven(setup, FEED));
     setup.heap.refuse(n);
     let fault = session.copy(setup.rt, setup.alloc, &stranger).err();
     let met = setup.heap.relent(n);
     let number = if met { 29 } else { 26 };
-    if fault?.code().number() == number {
+    if some!(fault).code().number() == number {
         Some(met)
     } else {
         None
@@ -199,7 +195,7 @@ fn refused<A: Allocator + Copy, R: Wait>(setup: &Setup<A, R>, call: &Call) -> Op
             Call::Enter => enters(setup, n),
             Call::CopyForStranger => copies_for_stranger(setup, n),
         };
-        if !met? {
+        if !some!(met) {
             return Some(n);
         }
     }

@@ -5,6 +5,7 @@ use nd_cluster::{Cluster, Next};
 use nd_examples::{Told, graph_of, processors_of, step_of};
 use nd_graph::Graph;
 use nd_session::{Session, State};
+use nd_testing::{ok, some};
 use nd_timeline::{Command, Timeline};
 use std::alloc::{Allocator, Global};
 
@@ -40,7 +41,7 @@ pub fn command_of<A: Allocator + Copy>(
     asked: &Asked,
 ) -> Option<Command<A>> {
     match asked {
-        Asked::Forward(told) => Some(Command::Forward(step_of(alloc, graph, told)?)),
+        Asked::Forward(told) => Some(Command::Forward(some!(step_of(alloc, graph, told)))),
         Asked::Back => Some(Command::Back),
         Asked::Redo => Some(Command::Redo),
         Asked::Jump(to) => Some(Command::Jump(*to)),
@@ -56,16 +57,16 @@ pub fn command_of<A: Allocator + Copy>(
         }),
         Asked::RunOnly(limit, list) => Some(Command::Run {
             limit: *limit,
-            only: Some(processors_of(alloc, list)?),
+            only: Some(some!(processors_of(alloc, list))),
             seed: None,
         }),
         Asked::Sink(name, value) => {
             let condition = only(Atom::Sink {
-                vertex: graph.location_of(name)?,
+                vertex: some!(graph.location_of(name)),
                 value: *value,
                 at_least: 1,
             });
-            Some(Command::SetBreak(BoxedCondition::new(alloc, condition).ok()?))
+            Some(Command::SetBreak(ok!(BoxedCondition::new(alloc, condition))))
         }
         Asked::Clear(id) => Some(Command::ClearBreak(*id)),
     }
@@ -73,7 +74,7 @@ pub fn command_of<A: Allocator + Copy>(
 
 /// Returns the `State` of an initial state.
 pub fn opened<A: Allocator + Copy>(json: Global, alloc: A, text: &str, n: u32) -> Option<State<A>> {
-    let graph = graph_of(json, alloc, text)?;
+    let graph = some!(graph_of(json, alloc, text));
     let Ok(cluster) = Cluster::start(alloc, graph, n) else {
         return None;
     };
@@ -93,5 +94,5 @@ pub fn session_of<A: Allocator + Copy>(
     text: &str,
     n: u32,
 ) -> Option<Session<A>> {
-    Some(Session::new(opened(json, alloc, text, n)?))
+    Some(Session::new(some!(opened(json, alloc, text, n))))
 }

@@ -7,7 +7,7 @@ use nd_breaks::{Atom, Condition};
 use nd_cluster::{Allowed, Cluster, Next, Step};
 use nd_examples::{HELD, LINE, Told, make, point, reach as cluster_of, start, step_of};
 use nd_reach::{ReachFault, Reached, reach};
-use nd_testing::{Refusing, in_turn};
+use nd_testing::{Refusing, in_turn, ok, some};
 use std::alloc::{Allocator, Global};
 
 /// What a search returns.
@@ -63,7 +63,7 @@ static ROWS: [Row; 6] = [
 
 /// Returns the condition that the view of processor 0 has passed an epoch at z.
 fn passed<A: Allocator + Copy>(cluster: &Cluster<A>, epoch: u32) -> Option<Condition> {
-    let point = point(cluster.graph(), "z", &[epoch])?;
+    let point = some!(point(cluster.graph(), "z", &[epoch]));
     Some(only(Atom::Passed { q: 0, point }))
 }
 
@@ -86,7 +86,7 @@ fn search<A: Allocator + Copy>(
     row: &Row,
 ) -> Option<()> {
     let (_, _, allowed, limit, wanted) = row;
-    let found = reach(alloc, cluster, *allowed, when, *limit).ok()?;
+    let found = ok!(reach(alloc, cluster, *allowed, when, *limit));
     if is_found(&found, wanted) {
         Some(())
     } else {
@@ -103,14 +103,14 @@ fn refused_from<A: Allocator + Copy>(
     epoch: u32,
     row: &Row,
 ) -> Option<u64> {
-    let when = passed(cluster, epoch)?;
+    let when = some!(passed(cluster, epoch));
     in_turn!(heap: search(alloc, cluster, &when, row))
 }
 
 /// The same from the cluster of the row to one that has passed epoch 0.
 fn refused<A: Allocator + Copy>(heap: &Heap, json: Global, alloc: A, row: &Row) -> Option<u64> {
     let (text, steps, _, _, _) = row;
-    let cluster = cluster_of(json, alloc, text, 1, steps)?;
+    let cluster = some!(cluster_of(json, alloc, text, 1, steps));
     refused_from(heap, alloc, &cluster, 0, row)
 }
 
@@ -133,15 +133,15 @@ type Queues = (u32, u32, u32);
 /// Returns a cluster with such queues.
 fn queued<A: Allocator + Copy>(json: Global, alloc: A, queues: Queues) -> Option<Cluster<A>> {
     let (n, count, received) = queues;
-    let mut cluster = start(json, alloc, LINE, n)?;
+    let mut cluster = some!(start(json, alloc, LINE, n));
     for _ in 0..count {
         for told in QUEUEING {
-            let step = step_of(alloc, cluster.graph(), told)?;
-            make(&mut cluster, &step)?;
+            let step = some!(step_of(alloc, cluster.graph(), told));
+            some!(make(&mut cluster, &step));
         }
     }
     for _ in 0..received {
-        make(&mut cluster, &Step::Receive { from: 0, to: 0 })?;
+        some!(make(&mut cluster, &Step::Receive { from: 0, to: 0 }));
     }
     Some(cluster)
 }
@@ -155,8 +155,8 @@ static LONG: Along = ((1, 130, 0), (LINE, NOTHING, NONE, 1000, Wanted::Way(130))
 /// The search of all orders of a receive of processor 0 and of so many of processor 1 that one state and the next are
 /// farther apart than a walk goes. The walker is brought there from the start.
 static APART: Along = (
-    (2, 20, 19),
-    (LINE, NOTHING, NONE, 1000, Wanted::Nowhere(42, true)),
+    (2, 18, 17),
+    (LINE, NOTHING, NONE, 1000, Wanted::Nowhere(38, true)),
 );
 
 /// The same with so many receives that the walker is brought there from a saved state.
@@ -172,14 +172,14 @@ fn refused_along<A: Allocator + Copy>(
     along: &Along,
 ) -> Option<u64> {
     let (queues, row) = along;
-    let cluster = queued(json, alloc, *queues)?;
+    let cluster = some!(queued(json, alloc, *queues));
     refused_from(heap, alloc, &cluster, queues.1.saturating_sub(1), row)
 }
 
 #[test]
 fn long_ways_out_of_memory(rt: HostRuntime) {
     let heap = Refusing::new(rt.alloc());
-    for along in [&LONG, &APART] {
+    for along in [&APART, &LONG] {
         let count = refused_along(&heap, rt.alloc(), &heap, along);
         assert!(rt; matches!(count, Some(n) if n > 130));
         assert!(rt; heap.live() == 0);
@@ -189,8 +189,8 @@ fn long_ways_out_of_memory(rt: HostRuntime) {
 /// Returns whether a search with ample memory returns what is wanted.
 fn is_found_along(alloc: Global, along: &Along) -> Option<()> {
     let (queues, row) = along;
-    let cluster = queued(alloc, alloc, *queues)?;
-    search(alloc, &cluster, &passed(&cluster, 0)?, row)
+    let cluster = some!(queued(alloc, alloc, *queues));
+    search(alloc, &cluster, &some!(passed(&cluster, 0)), row)
 }
 
 #[test]
@@ -200,8 +200,8 @@ fn far_states(rt: HostRuntime) {
 
 /// Returns whether a search of so many states is refused before it begins, without a request for memory.
 fn is_refused(alloc: Global, limit: u64) -> Option<bool> {
-    let cluster = start(alloc, alloc, LINE, 1)?;
-    let fault = reach(alloc, &cluster, NONE, &passed(&cluster, 0)?, limit).err()?;
+    let cluster = some!(start(alloc, alloc, LINE, 1));
+    let fault = some!(reach(alloc, &cluster, NONE, &some!(passed(&cluster, 0)), limit).err());
     Some(fault == ReachFault::BadRange && fault.code().number() == 50)
 }
 

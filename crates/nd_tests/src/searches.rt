@@ -6,7 +6,7 @@ use nd_breaks::{Atom, Condition};
 use nd_cluster::Next;
 use nd_examples::{LINE, Told, point, start, step_of};
 use nd_history::{Gate, OpenGate, SearchFault, Snapshot, search};
-use nd_testing::{MANY, Refusing, Sign};
+use nd_testing::{MANY, Refusing, Sign, ok, some};
 use nd_timeline::Timeline;
 use std::alloc::{Allocator, Global};
 use std::rt::Clock;
@@ -18,19 +18,19 @@ static NOTHING: Told = Told::Feed(0, "a", &[], Next::Next);
 
 /// Returns a snapshot of a line that keeps this many feeds of nothing, the cursor at this position.
 fn fed<A: Allocator + Copy>(json: Global, alloc: A, times: u64, at: u64) -> Option<Snapshot<A>> {
-    let mut timeline = Timeline::new(alloc, start(json, alloc, LINE, 1)?).ok()?;
-    let step = step_of(alloc, timeline.cluster().graph(), &NOTHING)?;
+    let mut timeline = ok!(Timeline::new(alloc, some!(start(json, alloc, LINE, 1))));
+    let step = some!(step_of(alloc, timeline.cluster().graph(), &NOTHING));
     for _ in 0..times {
-        timeline.forward(&step).ok()?;
+        ok!(timeline.forward(&step));
     }
-    timeline.jump(at).ok()?;
+    ok!(timeline.jump(at));
     Snapshot::of(alloc, &timeline, 0).ok()
 }
 
 /// Returns the condition that holds if a location has a count of at least 1 at an epoch.
 fn count<A: Allocator + Copy>(snapshot: &Snapshot<A>, name: &str, epoch: u32) -> Option<Condition> {
     Some(only(Atom::Count {
-        point: point(snapshot.cluster().graph(), name, &[epoch])?,
+        point: some!(point(snapshot.cluster().graph(), name, &[epoch])),
         at_least: 1,
     }))
 }
@@ -51,10 +51,10 @@ impl<R: Clock + Sync> Gate for Held<'_, R> {
 
 /// Returns whether two workers were in pieces at the same time, and found nothing.
 fn are_at_the_same_time<R: Threads + Sync + Clock>(rt: &R, alloc: Global) -> Option<bool> {
-    let snapshot = fed(alloc, alloc, 31, 31)?;
-    let nowhere = count(&snapshot, "az", 0)?;
+    let snapshot = some!(fed(alloc, alloc, 31, 31));
+    let nowhere = some!(count(&snapshot, "az", 0));
     let gate = Held(Sign::new(rt));
-    let found = search(rt, alloc, &snapshot, &nowhere, 0, 31, 2, &gate).ok()?;
+    let found = ok!(search(rt, alloc, &snapshot, &nowhere, 0, 31, 2, &gate));
     Some(found.is_none() && gate.0.came())
 }
 
@@ -90,11 +90,11 @@ static ROWS: [Row; 7] = [
 /// Returns whether a search by `workers` workers finds the hit of its row, and calls the gate once for
 /// each piece.
 fn hits<R: Threads + Sync>(rt: &R, alloc: Global, row: &Row, workers: u64) -> Option<bool> {
-    let snapshot = fed(alloc, alloc, 40, 40)?;
+    let snapshot = some!(fed(alloc, alloc, 40, 40));
     let (lo, hi, pieces, wanted) = *row;
-    let condition = count(&snapshot, "a", 39)?;
+    let condition = some!(count(&snapshot, "a", 39));
     let gate = Counted(AtomicU64::new(0));
-    let found = search(rt, alloc, &snapshot, &condition, lo, hi, workers, &gate).ok()?;
+    let found = ok!(search(rt, alloc, &snapshot, &condition, lo, hi, workers, &gate));
     Some(found == wanted && gate.0.load(Ordering::SeqCst) == pieces)
 }
 
@@ -137,7 +137,7 @@ fn searched_in_turn<A: Allocator + Copy + Send + Sync, R: Threads + Sync>(
 ) -> Option<u64> {
     let mut walks: u64 = 0;
     for n in 0..MANY {
-        let (met, is_missing) = searched(rt, heap, alloc, asked, n)?;
+        let (met, is_missing) = some!(searched(rt, heap, alloc, asked, n));
         if !met {
             return Some(walks);
         }
@@ -154,13 +154,13 @@ fn searches_in_turn<A: Allocator + Copy + Send + Sync, R: Threads + Sync>(
     json: Global,
     alloc: A,
 ) -> Option<bool> {
-    let end = fed(json, alloc, 31, 31)?;
-    let begin = fed(json, alloc, 31, 0)?;
-    let nowhere = count(&end, "az", 0)?;
-    let late = count(&end, "a", 20)?;
-    searched_in_turn(rt, heap, alloc, (&end, &nowhere))?;
-    searched_in_turn(rt, heap, alloc, (&begin, &late))?;
-    Some(searched_in_turn(rt, heap, alloc, (&begin, &nowhere))? > 0)
+    let end = some!(fed(json, alloc, 31, 31));
+    let begin = some!(fed(json, alloc, 31, 0));
+    let nowhere = some!(count(&end, "az", 0));
+    let late = some!(count(&end, "a", 20));
+    some!(searched_in_turn(rt, heap, alloc, (&end, &nowhere)));
+    some!(searched_in_turn(rt, heap, alloc, (&begin, &late)));
+    Some(some!(searched_in_turn(rt, heap, alloc, (&begin, &nowhere))) > 0)
 }
 
 #[test]
@@ -190,8 +190,8 @@ fn stops_at_the_gate<A: Allocator + Copy + Send + Sync, R: Threads + Sync>(
     json: Global,
     alloc: A,
 ) -> Option<bool> {
-    let snapshot = fed(json, alloc, 31, 0)?;
-    let nowhere = count(&snapshot, "az", 0)?;
+    let snapshot = some!(fed(json, alloc, 31, 0));
+    let nowhere = some!(count(&snapshot, "az", 0));
     let fault = search(rt, alloc, &snapshot, &nowhere, 0, 31, 1, &Refuses(heap)).err();
     let met = heap.relent(0);
     Some(met && matches!(fault, Some(SearchFault::Missing { piece: 0, .. })))

@@ -9,7 +9,7 @@ use nd_examples::{
 use nd_graph::Graph;
 use nd_history::{Gate, search};
 use nd_session::{Client, CloseWhy, Log, Receipt, Session, SessionFault};
-use nd_testing::Sign;
+use nd_testing::{Sign, ok, some};
 use nd_timeline::{Command, Fault, Reply};
 use std::alloc::Global;
 use std::rt::Clock;
@@ -19,10 +19,10 @@ use std::thread::Threads;
 
 /// Returns `times` feeds of nothing on a line.
 fn feeds(alloc: Global, times: u64) -> Option<Vec<Command>> {
-    let graph = graph_of(alloc, alloc, LINE)?;
+    let graph = some!(graph_of(alloc, alloc, LINE));
     let mut commands = Vec::new(alloc);
     for _ in 0..times {
-        commands.push(command_of(alloc, &graph, &NOTHING)?).ok()?;
+        ok!(commands.push(some!(command_of(alloc, &graph, &NOTHING))));
     }
     Some(commands)
 }
@@ -86,7 +86,7 @@ fn are_feeds(entries: &[Receipt], feed: &Command) -> bool {
 
 /// Returns a client that has entered, and five feeds of nothing.
 fn entered<R: Wait>(rt: &R, alloc: Global, session: &Session) -> Option<(Client, Vec<Command>)> {
-    Some((session.enter(rt, alloc).ok()?, feeds(alloc, 5)?))
+    Some((ok!(session.enter(rt, alloc)), some!(feeds(alloc, 5))))
 }
 
 /// Returns the log of a session that is closed with both its clients, if all their commands were answered.
@@ -95,16 +95,16 @@ fn closed(alloc: Global, session: Session, first: Served, second: Served) -> Opt
         return None;
     }
     let mut clients = Vec::new(alloc);
-    clients.push(first.client).ok()?;
-    clients.push(second.client).ok()?;
+    ok!(clients.push(first.client));
+    ok!(clients.push(second.client));
     session.close(clients).ok()
 }
 
 /// Returns the log of a session of two clients in threads that each feed nothing five times.
 fn log_of_two<R: Wait + Threads + Sync>(rt: &R, alloc: Global) -> Option<Log> {
-    let session = session_of(alloc, alloc, LINE, 1)?;
-    let (first, five) = entered(rt, alloc, &session)?;
-    let (second, more) = entered(rt, alloc, &session)?;
+    let session = some!(session_of(alloc, alloc, LINE, 1));
+    let (first, five) = some!(entered(rt, alloc, &session));
+    let (second, more) = some!(entered(rt, alloc, &session));
     let (first, second) = thread::join(
         rt,
         || serve(rt, alloc, &session, first, five),
@@ -115,7 +115,7 @@ fn log_of_two<R: Wait + Threads + Sync>(rt: &R, alloc: Global) -> Option<Log> {
 
 /// Returns whether the log is of the ten feeds, each client's in order.
 fn is_of_two(alloc: Global, log: &Log) -> Option<bool> {
-    let feed = feeds(alloc, 1)?.pop()?;
+    let feed = some!(some!(feeds(alloc, 1)).pop());
     let entries = log.entries.as_slice();
     let is_whole = (entries.len(), log.entered) == (10, 2) && are_feeds(entries, &feed);
     let are_in_order = are_numbered(entries, 0, 5) && are_numbered(entries, 1, 5);
@@ -125,7 +125,7 @@ fn is_of_two(alloc: Global, log: &Log) -> Option<bool> {
 
 /// Returns whether two clients leave such a log.
 fn leave_their_log<R: Wait + Threads + Sync>(rt: &R, alloc: Global) -> Option<bool> {
-    is_of_two(alloc, &log_of_two(rt, alloc)?)
+    is_of_two(alloc, &some!(log_of_two(rt, alloc)))
 }
 
 #[test]
@@ -152,9 +152,9 @@ fn is_stranger<T: Drop>(
 
 /// Returns a session's first client, whose command is logged there.
 fn logged<R: Wait>(rt: &R, alloc: Global, session: &Session) -> Option<Client> {
-    let mut client = session.enter(rt, alloc).ok()?;
-    let feed = feeds(alloc, 1)?.pop()?;
-    let receipt = session.command(rt, alloc, &mut client, feed).ok()?;
+    let mut client = ok!(session.enter(rt, alloc));
+    let feed = some!(some!(feeds(alloc, 1)).pop());
+    let receipt = ok!(session.command(rt, alloc, &mut client, feed));
     if receipt.index == 0 {
         Some(client)
     } else {
@@ -188,10 +188,10 @@ fn are_strangers<R: Wait>(
 /// Returns whether a session with its own client refuses strangers so, before an entry is logged and after
 /// it, and whether the stranger with a receipt gets no other.
 fn tells_strangers<R: Wait>(rt: &R, alloc: Global, outsiders: &mut Outsiders) -> Option<bool> {
-    let session = session_of(alloc, alloc, LINE, 1)?;
-    let mut own = session.enter(rt, alloc).ok()?;
+    let session = some!(session_of(alloc, alloc, LINE, 1));
+    let mut own = ok!(session.enter(rt, alloc));
     let is_before = are_strangers(rt, alloc, &session, outsiders, None);
-    let entry = session.command(rt, alloc, &mut own, Command::Back).ok()?;
+    let entry = ok!(session.command(rt, alloc, &mut own, Command::Back));
     let is_after = are_strangers(rt, alloc, &session, outsiders, Some(&entry));
     let stranger = &outsiders.with_receipt;
     let is_copy_refused = is_stranger(session.copy(rt, alloc, stranger), 0, Some(&entry));
@@ -204,22 +204,22 @@ fn tells_strangers<R: Wait>(rt: &R, alloc: Global, outsiders: &mut Outsiders) ->
 /// Returns why a session does not close with one client.
 fn why_open(alloc: Global, session: Session, client: Client) -> Option<CloseWhy> {
     let mut clients = Vec::new(alloc);
-    clients.push(client).ok()?;
-    Some(session.close(clients).err()?.why)
+    ok!(clients.push(client));
+    Some(some!(session.close(clients).err()).why)
 }
 
 /// Returns whether clients of one session are strangers to another, and their own does not close without
 /// one of them.
 fn stay_strangers<R: Wait>(rt: &R, alloc: Global) -> Option<bool> {
-    let other = session_of(alloc, alloc, LINE, 1)?;
-    let with_receipt = logged(rt, alloc, &other)?;
-    let without = other.enter(rt, alloc).ok()?;
+    let other = some!(session_of(alloc, alloc, LINE, 1));
+    let with_receipt = some!(logged(rt, alloc, &other));
+    let without = ok!(other.enter(rt, alloc));
     let mut outsiders = Outsiders {
         with_receipt,
         without,
     };
-    let are_told = tells_strangers(rt, alloc, &mut outsiders)?;
-    let why = why_open(alloc, other, outsiders.with_receipt)?;
+    let are_told = some!(tells_strangers(rt, alloc, &mut outsiders));
+    let why = some!(why_open(alloc, other, outsiders.with_receipt));
     Some(are_told && why == CloseWhy::ClientMissing { client: 1 })
 }
 
@@ -256,17 +256,17 @@ fn are_same(one: &Graph, other: &Graph) -> bool {
 
 /// Returns whether the first copy from a session is of the initial state.
 fn opens<R: Wait>(rt: &R, alloc: Global, text: &str, n: u32) -> Option<bool> {
-    let started = start(alloc, alloc, text, n)?;
-    let session = session_of(alloc, alloc, text, n)?;
-    let client = session.enter(rt, alloc).ok()?;
-    let snapshot = session.copy(rt, alloc, &client).ok()?;
+    let started = some!(start(alloc, alloc, text, n));
+    let session = some!(session_of(alloc, alloc, text, n));
+    let client = ok!(session.enter(rt, alloc));
+    let snapshot = ok!(session.copy(rt, alloc, &client));
     let cluster = snapshot.cluster();
-    let state = state_text(alloc, cluster)?;
+    let state = some!(state_text(alloc, cluster));
     Some(
         (snapshot.index(), snapshot.at(), snapshot.kept()) == (0, 0, 0)
             && cluster.n() == n as usize
             && are_same(cluster.graph(), started.graph())
-            && state.as_str() == state_text(alloc, &started)?.as_str(),
+            && state.as_str() == some!(state_text(alloc, &started)).as_str(),
     )
 }
 
@@ -280,9 +280,9 @@ fn session_openings(rt: HostRuntime) {
 
 /// Returns whether clients get the numbers from 0 to 63, and no other enters.
 fn enters_sixty_four<R: Wait>(rt: &R, alloc: Global) -> Option<bool> {
-    let session = session_of(alloc, alloc, LINE, 1)?;
+    let session = some!(session_of(alloc, alloc, LINE, 1));
     for number in 0..64 {
-        if session.enter(rt, alloc).ok()?.number() != number {
+        if ok!(session.enter(rt, alloc)).number() != number {
             return Some(false);
         }
     }
@@ -300,9 +300,9 @@ const MOST: u64 = 1_000_000;
 
 /// Returns whether `times` commands are answered and logged.
 fn answers_backs(alloc: Global, times: u64) -> Option<bool> {
-    let mut state = opened(alloc, alloc, LINE, 1)?;
+    let mut state = some!(opened(alloc, alloc, LINE, 1));
     for _ in 0..times {
-        let reply = state.answer(0, Command::Back).ok()?;
+        let reply = ok!(state.answer(0, Command::Back));
         if reply != Reply::Refused(Fault::AtStart) {
             return Some(false);
         }
@@ -343,7 +343,7 @@ fn found<R: Wait + Threads + Sync, G: Gate>(
     condition: &Condition,
     gate: &G,
 ) -> Option<Option<u64>> {
-    let snapshot = session.copy(rt, alloc, client).ok()?;
+    let snapshot = ok!(session.copy(rt, alloc, client));
     search(rt, alloc, &snapshot, condition, 0, snapshot.kept(), 2, gate).ok()
 }
 
@@ -356,7 +356,7 @@ fn answered<R: Wait + Clock>(
     gate: &Between<R>,
 ) -> Option<Reply> {
     gate.begun.wait();
-    let receipt = session.command(rt, alloc, client, Command::Back).ok()?;
+    let receipt = ok!(session.command(rt, alloc, client, Command::Back));
     gate.answered.give();
     Some(receipt.reply.copy())
 }
@@ -370,7 +370,7 @@ fn are_beside<R: Wait + Threads + Clock + Sync>(
     second: &mut Client,
 ) -> Option<bool> {
     let condition = only(Atom::Count {
-        point: point(&graph_of(alloc, alloc, LINE)?, "a", &[2])?,
+        point: some!(point(&some!(graph_of(alloc, alloc, LINE)), "a", &[2])),
         at_least: 1,
     });
     let gate = Between {
@@ -382,16 +382,16 @@ fn are_beside<R: Wait + Threads + Clock + Sync>(
         || found(rt, alloc, session, first, &condition, &gate),
         || answered(rt, alloc, session, second, &gate),
     );
-    let is_answered = reply? == Reply::Moved { at: 2, kept: 3 };
-    Some(is_answered && hit? == Some(2) && gate.begun.came() && gate.answered.came())
+    let is_answered = some!(reply) == Reply::Moved { at: 2, kept: 3 };
+    Some(is_answered && some!(hit) == Some(2) && gate.begun.came() && gate.answered.came())
 }
 
 /// Does so after three feeds of the first client.
 fn are_at_the_same_time<R: Wait + Threads + Clock + Sync>(rt: &R, alloc: Global) -> Option<bool> {
-    let session = session_of(alloc, alloc, LINE, 1)?;
-    let first = session.enter(rt, alloc).ok()?;
-    let mut second = session.enter(rt, alloc).ok()?;
-    let served = serve(rt, alloc, &session, first, feeds(alloc, 3)?);
+    let session = some!(session_of(alloc, alloc, LINE, 1));
+    let first = ok!(session.enter(rt, alloc));
+    let mut second = ok!(session.enter(rt, alloc));
+    let served = serve(rt, alloc, &session, first, some!(feeds(alloc, 3)));
     are_beside(rt, alloc, &session, &served.client, &mut second)
 }
 

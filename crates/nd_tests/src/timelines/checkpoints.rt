@@ -5,17 +5,17 @@ use crate::timelines::run_all;
 use nd_breaks::Breaks;
 use nd_cluster::{Next, Step, Values};
 use nd_examples::{ENDLESS, Told, is_state, start, state_text, step_of};
-use nd_testing::{MANY, Refusing};
+use nd_testing::{MANY, Refusing, ok, some};
 use nd_timeline::Timeline;
 use std::alloc::{Allocator, Global};
 
 /// Returns a timeline on a loop that never ends, with a record in it.
 fn looped<A: Allocator + Copy>(json: Global, alloc: A) -> Option<Timeline<A>> {
-    let mut timeline = Timeline::new(alloc, start(json, alloc, ENDLESS, 1)?).ok()?;
+    let mut timeline = ok!(Timeline::new(alloc, some!(start(json, alloc, ENDLESS, 1))));
     for value in [&[1_i64], &[2]] {
         let told = Told::Feed(0, "a", value, Next::Next);
-        let step = step_of(alloc, timeline.cluster().graph(), &told)?;
-        timeline.forward(&step).ok()?;
+        let step = some!(step_of(alloc, timeline.cluster().graph(), &told));
+        ok!(timeline.forward(&step));
     }
     Some(timeline)
 }
@@ -27,9 +27,9 @@ fn meets_run<A: Allocator + Copy>(
     alloc: A,
     n: u64,
 ) -> Option<(bool, bool)> {
-    let mut timeline = looped(json, alloc)?;
-    let breaks = Breaks::new(alloc).ok()?;
-    run_all(&mut timeline, 1020, &breaks).ok()?;
+    let mut timeline = some!(looped(json, alloc));
+    let breaks = ok!(Breaks::new(alloc));
+    ok!(run_all(&mut timeline, 1020, &breaks));
     heap.refuse(n);
     let goes_on = run_all(&mut timeline, 10, &breaks).is_ok();
     Some((heap.relent(n), goes_on))
@@ -41,8 +41,8 @@ fn is_same<A: Allocator + Copy>(
     timeline: &Timeline<A>,
     other: &mut Timeline<A>,
 ) -> Option<bool> {
-    other.jump(timeline.at()).ok()?;
-    let text = state_text(json, other.cluster())?;
+    ok!(other.jump(timeline.at()));
+    let text = some!(state_text(json, other.cluster()));
     Some(is_state(json, timeline.cluster(), text.as_str()))
 }
 
@@ -55,11 +55,11 @@ fn meets_jump<A: Allocator + Copy>(
     other: &mut Timeline<A>,
     n: u64,
 ) -> Option<(bool, bool)> {
-    timeline.jump(2600).ok()?;
+    ok!(timeline.jump(2600));
     heap.refuse(n);
     let goes_on = timeline.jump(1100).is_ok();
     let met = heap.relent(n);
-    if is_same(json, timeline, other)? {
+    if some!(is_same(json, timeline, other)) {
         Some((met, goes_on))
     } else {
         None
@@ -70,7 +70,7 @@ fn meets_jump<A: Allocator + Copy>(
 fn unnoticed_in_runs<A: Allocator + Copy>(heap: &Heap, json: Global, alloc: A) -> Option<u64> {
     let mut count: u64 = 0;
     for n in 0..MANY {
-        let (met, goes_on) = meets_run(heap, json, alloc, n)?;
+        let (met, goes_on) = some!(meets_run(heap, json, alloc, n));
         if !met {
             return if goes_on { Some(count) } else { None };
         }
@@ -81,12 +81,12 @@ fn unnoticed_in_runs<A: Allocator + Copy>(heap: &Heap, json: Global, alloc: A) -
 
 /// Does the same for such jumps in one timeline.
 fn unnoticed_in_jumps<A: Allocator + Copy>(heap: &Heap, json: Global, alloc: A) -> Option<u64> {
-    let mut timeline = looped(json, alloc)?;
-    run_all(&mut timeline, 2598, &Breaks::new(alloc).ok()?).ok()?;
-    let mut other = timeline.copy(alloc).ok()?;
+    let mut timeline = some!(looped(json, alloc));
+    ok!(run_all(&mut timeline, 2598, &ok!(Breaks::new(alloc))));
+    let mut other = ok!(timeline.copy(alloc));
     let mut count: u64 = 0;
     for n in 0..MANY {
-        let (met, goes_on) = meets_jump(heap, json, &mut timeline, &mut other, n)?;
+        let (met, goes_on) = some!(meets_jump(heap, json, &mut timeline, &mut other, n));
         if !met {
             return if goes_on { Some(count) } else { None };
         }
@@ -115,7 +115,7 @@ fn far_jumps_out_of_memory(rt: HostRuntime) {
 fn fill<A: Allocator + Copy>(alloc: A, timeline: &mut Timeline<A>, count: i64) -> Option<()> {
     let mut values = Values::new(alloc);
     for value in 0..count {
-        values.push(value).ok()?;
+        ok!(values.push(value));
     }
     let step = Step::Feed {
         p: 0,
@@ -134,14 +134,14 @@ fn blocks<A: Allocator + Copy>(
     alloc: A,
     records: i64,
 ) -> Option<(u64, u64)> {
-    let mut timeline = Timeline::new(alloc, start(json, alloc, ENDLESS, 1)?).ok()?;
-    fill(alloc, &mut timeline, records)?;
-    run_all(&mut timeline, 20_000, &Breaks::new(alloc).ok()?).ok()?;
+    let mut timeline = ok!(Timeline::new(alloc, some!(start(json, alloc, ENDLESS, 1))));
+    some!(fill(alloc, &mut timeline, records));
+    ok!(run_all(&mut timeline, 20_000, &ok!(Breaks::new(alloc))));
     let with = heap.live();
-    let saved = timeline.cluster().saved(alloc).ok()?;
+    let saved = ok!(timeline.cluster().saved(alloc));
     let one = heap.live().saturating_sub(with);
     drop(saved);
-    let copy = timeline.copy(alloc).ok()?;
+    let copy = ok!(timeline.copy(alloc));
     drop(timeline);
     let without = heap.live();
     drop(copy);
@@ -156,7 +156,7 @@ fn has_about<A: Allocator + Copy>(
     records: i64,
     count: u64,
 ) -> Option<bool> {
-    let (all, one) = blocks(heap, json, alloc, records)?;
+    let (all, one) = some!(blocks(heap, json, alloc, records));
     let least = one.saturating_mul(count.saturating_sub(1));
     let most = one.saturating_mul(count.saturating_add(1));
     Some(one > 0 && least <= all && all <= most)

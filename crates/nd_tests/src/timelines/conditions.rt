@@ -6,7 +6,7 @@ use crate::timelines::memory::Heap;
 use nd_breaks::{Atom, Breaks, Condition, Literal, NoBreak, TooManyBreaks, TooManyLiterals};
 use nd_cluster::{Cluster, Step};
 use nd_examples::{LINE, start};
-use nd_testing::{Refusing, unasked};
+use nd_testing::{Refusing, ok, some, unasked};
 use nd_timeline::Command;
 use std::alloc::{Allocator, Global};
 use std::mem::size_of;
@@ -27,7 +27,7 @@ fn always() -> Condition {
 
 /// Returns whether each breakpoint gets the least free number, and none a number when 32 are set.
 fn are_numbered<A: Allocator>(alloc: A) -> Option<bool> {
-    let mut breaks = Breaks::new(alloc).ok()?;
+    let mut breaks = ok!(Breaks::new(alloc));
     for id in 0..32 {
         if breaks.set(always()) != Ok(id) {
             return Some(false);
@@ -48,7 +48,7 @@ fn breakpoint_ids(rt: HostRuntime) {
 fn takes_eight() -> Option<bool> {
     let mut condition = only(queued(0));
     for _ in 1..8 {
-        condition.push(Literal::Not(queued(1))).ok()?;
+        ok!(condition.push(Literal::Not(queued(1))));
     }
     let is_full = condition.push(Literal::Is(queued(0))) == Err(TooManyLiterals);
     Some(is_full && condition.literals().len() == 8)
@@ -62,19 +62,19 @@ fn eight_literals(rt: HostRuntime) {
 /// Returns whether a condition is made, copied, set, hit and cleared.
 fn tells<A: Allocator + Copy>(cluster: &Cluster<A>, breaks: &mut Breaks<A>) -> Option<bool> {
     let mut condition = only(queued(0));
-    condition.push(Literal::Not(queued(1))).ok()?;
-    let id = breaks.set(condition.copy()).ok()?;
+    ok!(condition.push(Literal::Not(queued(1))));
+    let id = ok!(breaks.set(condition.copy()));
     let is_hit = breaks.first_hit(cluster) == Some(id);
-    let is_same = breaks.get(u64::from(id))?.same(&condition);
-    breaks.clear(u64::from(id)).ok()?;
+    let is_same = some!(breaks.get(u64::from(id))).same(&condition);
+    ok!(breaks.clear(u64::from(id)));
     Some(is_hit && is_same && breaks.first_hit(cluster) == None)
 }
 
 /// Returns whether this works while every request for memory is refused.
 fn tells_unasked<A: Allocator + Copy>(heap: &Heap, json: Global, alloc: A) -> Option<bool> {
-    let cluster = start(json, alloc, LINE, 1)?;
-    let mut breaks = Breaks::new(alloc).ok()?;
-    Some(unasked!(heap: tells(&cluster, &mut breaks)?))
+    let cluster = some!(start(json, alloc, LINE, 1));
+    let mut breaks = ok!(Breaks::new(alloc));
+    Some(unasked!(heap: some!(tells(&cluster, &mut breaks))))
 }
 
 #[test]

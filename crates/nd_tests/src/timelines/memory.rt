@@ -10,7 +10,7 @@ use nd_examples::{
     start, step_of,
 };
 use nd_history::{Snapshot, changes, effect, turns};
-use nd_testing::{Refusing, in_turn};
+use nd_testing::{Refusing, in_turn, ok, some};
 use nd_timeline::Timeline;
 use std::alloc::{Allocator, Global};
 
@@ -84,10 +84,10 @@ static SCRIPTS: [Script; 5] = [ALL, SUM_NOTIFIED, HELD_MOVED, EXCHANGED, SENT];
 /// Returns the timeline that keeps the steps of a script.
 pub fn kept<A: Allocator + Copy>(json: Global, alloc: A, script: &Script) -> Option<Timeline<A>> {
     let (text, n, steps) = script;
-    let mut timeline = Timeline::new(alloc, start(json, alloc, text, *n)?).ok()?;
+    let mut timeline = ok!(Timeline::new(alloc, some!(start(json, alloc, text, *n))));
     for told in *steps {
-        let step = step_of(alloc, timeline.cluster().graph(), told)?;
-        timeline.forward(&step).ok()?;
+        let step = some!(step_of(alloc, timeline.cluster().graph(), told));
+        ok!(timeline.forward(&step));
     }
     Some(timeline)
 }
@@ -95,33 +95,31 @@ pub fn kept<A: Allocator + Copy>(json: Global, alloc: A, script: &Script) -> Opt
 /// Goes from the end to the start and back.
 fn jump<A: Allocator + Copy>(timeline: &mut Timeline<A>) -> Option<()> {
     let end = timeline.kept();
-    timeline.back().ok()?;
-    timeline.redo().ok()?;
-    timeline.jump(0).ok()?;
+    ok!(timeline.back());
+    ok!(timeline.redo());
+    ok!(timeline.jump(0));
     timeline.jump(end).ok()
 }
 
 /// Runs all processors, then the first, and then the first by a seed, from the first position.
 fn run<A: Allocator + Copy>(alloc: A, timeline: &mut Timeline<A>) -> Option<()> {
-    let breaks = Breaks::new(alloc).ok()?;
-    timeline.jump(1).ok()?;
-    run_all(timeline, 10, &breaks).ok()?;
-    timeline.jump(1).ok()?;
-    let only = Some(processors_of(alloc, &[0, 0])?);
-    timeline.run(10, only.as_ref(), None, &breaks).ok()?;
-    timeline.jump(1).ok()?;
-    timeline.run(10, only.as_ref(), Some(1), &breaks).ok()?;
+    let breaks = ok!(Breaks::new(alloc));
+    ok!(timeline.jump(1));
+    ok!(run_all(timeline, 10, &breaks));
+    ok!(timeline.jump(1));
+    let only = Some(some!(processors_of(alloc, &[0, 0])));
+    ok!(timeline.run(10, only.as_ref(), None, &breaks));
+    ok!(timeline.jump(1));
+    ok!(timeline.run(10, only.as_ref(), Some(1), &breaks));
     Some(())
 }
 
 /// Copies a timeline, a snapshot of it and a command.
 fn copy<A: Allocator + Copy>(alloc: A, timeline: &Timeline<A>) -> Option<()> {
-    timeline.copy(alloc).ok()?;
-    Snapshot::of(alloc, timeline, 7).ok()?.copy(alloc).ok()?;
+    ok!(timeline.copy(alloc));
+    ok!(ok!(Snapshot::of(alloc, timeline, 7)).copy(alloc));
     let asked = Asked::RunOnly(10, &[0, 0]);
-    command_of(alloc, timeline.cluster().graph(), &asked)?
-        .copy(alloc)
-        .ok()?;
+    ok!(some!(command_of(alloc, timeline.cluster().graph(), &asked)).copy(alloc));
     Some(())
 }
 
@@ -130,34 +128,34 @@ fn walk<A: Allocator + Copy>(alloc: A, timeline: &Timeline<A>) -> Option<()> {
     let Ok(mut walk) = timeline.walk_near(alloc, 0) else {
         return None;
     };
-    timeline.walk_to(&mut walk, timeline.kept()).ok()?;
+    ok!(timeline.walk_to(&mut walk, timeline.kept()));
     timeline.walk_to(&mut walk, 0).ok()
 }
 
 /// Lists the changes of a view and the turns of a condition, and the effect of each step.
 fn list<A: Allocator + Copy>(alloc: A, timeline: &Timeline<A>) -> Option<()> {
     let end = timeline.kept();
-    let a = point(timeline.cluster().graph(), "a", &[0])?;
-    changes(alloc, timeline, 0, &a, 0, end).ok()?;
+    let a = some!(point(timeline.cluster().graph(), "a", &[0]));
+    ok!(changes(alloc, timeline, 0, &a, 0, end));
     let queued = Atom::Queue {
         from: 0,
         to: 0,
         at_least: 1,
     };
-    turns(alloc, timeline, &only(queued), 0, end).ok()?;
+    ok!(turns(alloc, timeline, &only(queued), 0, end));
     for before in 0..end {
-        effect(alloc, timeline, before.saturating_add(1)).ok()?;
+        ok!(effect(alloc, timeline, before.saturating_add(1)));
     }
     Some(())
 }
 
 /// Makes all these calls: `None` if one of them runs out of memory.
 fn ask<A: Allocator + Copy>(json: Global, alloc: A, script: &Script) -> Option<()> {
-    let mut timeline = kept(json, alloc, script)?;
-    copy(alloc, &timeline)?;
-    walk(alloc, &timeline)?;
-    list(alloc, &timeline)?;
-    jump(&mut timeline)?;
+    let mut timeline = some!(kept(json, alloc, script));
+    some!(copy(alloc, &timeline));
+    some!(walk(alloc, &timeline));
+    some!(list(alloc, &timeline));
+    some!(jump(&mut timeline));
     run(alloc, &mut timeline)
 }
 

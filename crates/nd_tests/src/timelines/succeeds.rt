@@ -5,7 +5,7 @@ use crate::timelines::memory::{ALL, Heap, ONE, kept};
 use crate::timelines::run_all;
 use nd_breaks::Breaks;
 use nd_examples::{Told, point, step_of};
-use nd_testing::{Refusing, unasked};
+use nd_testing::{Refusing, ok, some, unasked};
 use nd_timeline::Timeline;
 use std::alloc::{Allocator, Global};
 
@@ -15,9 +15,9 @@ fn tells<A: Allocator + Copy>(
     breaks: &Breaks<A>,
     at: u64,
 ) -> Option<bool> {
-    let z = point(timeline.base().graph(), "z", &[0])?;
-    timeline.jump(at).ok()?;
-    run_all(timeline, 0, breaks).ok()?;
+    let z = some!(point(timeline.base().graph(), "z", &[0]));
+    ok!(timeline.jump(at));
+    ok!(run_all(timeline, 0, breaks));
     let has_steps = timeline.step(3).is_some() && timeline.step(4).is_none();
     let is_there = (timeline.at(), timeline.kept()) == (at, 4);
     let _ = timeline.cluster().n();
@@ -26,10 +26,10 @@ fn tells<A: Allocator + Copy>(
 
 /// Returns whether it does so at a position while every request for memory is refused.
 fn stays<A: Allocator + Copy>(heap: &Heap, json: Global, alloc: A, at: u64) -> Option<bool> {
-    let mut timeline = kept(json, alloc, &ALL)?;
-    let breaks = Breaks::new(alloc).ok()?;
-    timeline.jump(at).ok()?;
-    Some(unasked!(heap: tells(&mut timeline, &breaks, at)?))
+    let mut timeline = some!(kept(json, alloc, &ALL));
+    let breaks = ok!(Breaks::new(alloc));
+    ok!(timeline.jump(at));
+    Some(unasked!(heap: some!(tells(&mut timeline, &breaks, at))))
 }
 
 #[test]
@@ -46,21 +46,21 @@ fn staying_takes_no_memory(rt: HostRuntime) {
 
 /// Returns a copy of a timeline that has run forward, gone back and forward, and then taken other steps.
 fn more<A: Allocator + Copy>(alloc: A, base: &Timeline<A>) -> Option<Timeline<A>> {
-    let mut copy = base.copy(alloc).ok()?;
-    run_all(&mut copy, 10, &Breaks::new(alloc).ok()?).ok()?;
-    copy.jump(0).ok()?;
-    copy.jump(2).ok()?;
-    copy.back().ok()?;
-    copy.redo().ok()?;
-    let step = step_of(alloc, copy.cluster().graph(), &Told::All(0))?;
-    copy.forward(&step).ok()?;
+    let mut copy = ok!(base.copy(alloc));
+    ok!(run_all(&mut copy, 10, &ok!(Breaks::new(alloc))));
+    ok!(copy.jump(0));
+    ok!(copy.jump(2));
+    ok!(copy.back());
+    ok!(copy.redo());
+    let step = some!(step_of(alloc, copy.cluster().graph(), &Told::All(0)));
+    ok!(copy.forward(&step));
     Some(copy)
 }
 
 /// Returns whether a timeline in the first heap is copied, and the copy moves without that heap.
 fn is_apart<A: Allocator + Copy>(first: &Heap, here: A, there: A, json: Global) -> Option<bool> {
-    let base = kept(json, here, &ONE)?;
-    let copy = unasked!(first: more(there, &base)?);
+    let base = some!(kept(json, here, &ONE));
+    let copy = unasked!(first: some!(more(there, &base)));
     Some((copy.at(), copy.kept()) == (3, 3))
 }
 
