@@ -3,9 +3,10 @@
 use nd_cluster::{Allowed, Next};
 use nd_delta::{Delta, DeltaFault, LargeDelta};
 use nd_examples::{
-    HELD, LINE, LOOP, Script, TWO_WAYS, Told, are_entries, change, graph_of, len, paths_of, point,
-    pop, processors_of, push, reach, unpop, unpush,
+    Entry, HELD, LINE, LOOP, Script, TWO_WAYS, Told, are_entries, change, graph_of, len, paths_of,
+    point, pop, processors_of, push, reach, unpop, unpush,
 };
+use nd_graph::Graph;
 use nd_mesh::{LIMIT, Mesh, PushFault};
 use nd_paths::{Constants, Paths, Summary};
 use nd_testing::{ok, some};
@@ -63,24 +64,52 @@ fn is_limited(alloc: Global) -> Option<bool> {
     Some(is_full && is_kept && delta.len() == 0)
 }
 
-/// Returns whether the sums, the differences and the part of two changes are what they should be.
+/// Returns the sum of 2 at a and a change, or the difference, by way of a large change.
+fn by_large(alloc: Global, graph: &Graph, other: &Delta, is_minus: bool) -> Option<Delta> {
+    let mut large = LargeDelta::new(alloc);
+    ok!(large.put(&some!(point(graph, "a", &[0])), 2));
+    let combined = ok!(large.combine(alloc, other, is_minus));
+    combined.whole(alloc).ok()
+}
+
+/// Returns the sum of 2 at a and a change, or the difference.
+fn directly(alloc: Global, graph: &Graph, other: &Delta, is_minus: bool) -> Option<Delta> {
+    let one = some!(change(alloc, graph, &[("a", 0, 2)]));
+    if is_minus {
+        one.minus(alloc, other).ok()
+    } else {
+        one.plus(alloc, other).ok()
+    }
+}
+
+/// Returns whether both have these entries.
+fn are_both(
+    alloc: Global,
+    graph: &Graph,
+    other: &Delta,
+    is_minus: bool,
+    wanted: &[Entry],
+) -> Option<bool> {
+    let large = some!(by_large(alloc, graph, other, is_minus));
+    let small = some!(directly(alloc, graph, other, is_minus));
+    Some(are_entries(graph, large.entries(), wanted) && are_entries(graph, small.entries(), wanted))
+}
+
+/// Returns whether the part of a change at z, which is named twice, is the entry there.
+fn is_part(alloc: Global, graph: &Graph, other: &Delta) -> Option<bool> {
+    let z = some!(point(graph, "z", &[0]));
+    let part = ok!(other.part(alloc, &[z.copy(), z]));
+    Some(are_entries(graph, part.entries(), &[("z", 0, 1)]))
+}
+
+/// Returns whether the sum, the difference and the part of two changes are what they should be.
 fn sums(alloc: Global) -> Option<bool> {
     let graph = some!(graph_of(alloc, alloc, LINE));
-    let r = some!(point(&graph, "z", &[0]));
-    let one = some!(change(alloc, &graph, &[("a", 0, 2)]));
     let other = some!(change(alloc, &graph, &[("a", 0, -2), ("z", 0, 1)]));
-    let mut large = LargeDelta::new(alloc);
-    ok!(large.put(&some!(point(&graph, "a", &[0])), 2));
-    let sum = ok!(ok!(large.combine(alloc, &other, false)).whole(alloc));
-    let difference = ok!(ok!(large.combine(alloc, &other, true)).whole(alloc));
-    let part = ok!(other.part(alloc, &[r.copy(), r]));
-    Some(
-        are_entries(&graph, sum.entries(), &[("z", 0, 1)])
-            && are_entries(&graph, difference.entries(), &[("a", 0, 4), ("z", 0, -1)])
-            && ok!(one.plus(alloc, &other)).entries() == sum.entries()
-            && ok!(one.minus(alloc, &other)).entries() == difference.entries()
-            && part.entries() == sum.entries(),
-    )
+    let sum = some!(are_both(alloc, &graph, &other, false, &[("z", 0, 1)]));
+    let left = &[("a", 0, 4), ("z", 0, -1)];
+    let difference = some!(are_both(alloc, &graph, &other, true, left));
+    Some(sum && difference && some!(is_part(alloc, &graph, &other)))
 }
 
 #[test]
