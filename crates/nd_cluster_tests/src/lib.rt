@@ -6,6 +6,8 @@
 #[cfg(test)]
 mod allocates_nothing;
 #[cfg(test)]
+mod arrivals;
+#[cfg(test)]
 mod copies;
 #[cfg(test)]
 mod limits;

@@ -3,9 +3,10 @@
 use nd_cluster::{Allowed, Next};
 use nd_delta::{Delta, DeltaFault, LargeDelta};
 use nd_examples::{
-    HELD, LINE, LOOP, Script, TWO_WAYS, Told, are_entries, change, graph_of, len, paths_of, point,
-    pop, processors_of, push, reach, unpop, unpush,
+    Entry, HELD, LINE, LOOP, Script, TWO_WAYS, Told, are_entries, change, graph_of, len, paths_of,
+    point, pop, processors_of, push, reach, unpop, unpush,
 };
+use nd_graph::Graph;
 use nd_mesh::{LIMIT, Mesh, PushFault};
 use nd_paths::{Constants, Paths, Summary};
 use std::alloc::Global;
@@ -62,24 +63,55 @@ fn is_limited(alloc: Global) -> Option<bool> {
     Some(is_full && is_kept && delta.len() == 0)
 }
 
-/// Returns whether the sums, the differences and the part of two changes are what they should be.
+/// Returns the sum of 2 at a and a change, or the difference, by way of a large change.
+fn by_large(alloc: Global, graph: &Graph, other: &Delta, is_minus: bool) -> Option<Delta> {
+    let mut large = LargeDelta::new(alloc);
+    large.put(&point(graph, "a", &[0])?, 2).ok()?;
+    large
+        .combine(alloc, other, is_minus)
+        .ok()?
+        .whole(alloc)
+        .ok()
+}
+
+/// Returns the sum of 2 at a and a change, or the difference.
+fn directly(alloc: Global, graph: &Graph, other: &Delta, is_minus: bool) -> Option<Delta> {
+    let one = change(alloc, graph, &[("a", 0, 2)])?;
+    if is_minus {
+        one.minus(alloc, other).ok()
+    } else {
+        one.plus(alloc, other).ok()
+    }
+}
+
+/// Returns whether both have these entries.
+fn are_both(
+    alloc: Global,
+    graph: &Graph,
+    other: &Delta,
+    is_minus: bool,
+    wanted: &[Entry],
+) -> Option<bool> {
+    let large = by_large(alloc, graph, other, is_minus)?;
+    let small = directly(alloc, graph, other, is_minus)?;
+    Some(are_entries(graph, large.entries(), wanted) && are_entries(graph, small.entries(), wanted))
+}
+
+/// Returns whether the part of a change at z, which is named twice, is the entry there.
+fn is_part(alloc: Global, graph: &Graph, other: &Delta) -> Option<bool> {
+    let z = point(graph, "z", &[0])?;
+    let part = other.part(alloc, &[z.copy(), z]).ok()?;
+    Some(are_entries(graph, part.entries(), &[("z", 0, 1)]))
+}
+
+/// Returns whether the sum, the difference and the part of two changes are what they should be.
 fn sums(alloc: Global) -> Option<bool> {
     let graph = graph_of(alloc, alloc, LINE)?;
-    let r = point(&graph, "z", &[0])?;
-    let one = change(alloc, &graph, &[("a", 0, 2)])?;
     let other = change(alloc, &graph, &[("a", 0, -2), ("z", 0, 1)])?;
-    let mut large = LargeDelta::new(alloc);
-    large.put(&point(&graph, "a", &[0])?, 2).ok()?;
-    let sum = large.combine(alloc, &other, false).ok()?.whole(alloc).ok()?;
-    let difference = large.combine(alloc, &other, true).ok()?.whole(alloc).ok()?;
-    let part = other.part(alloc, &[r.copy(), r]).ok()?;
-    Some(
-        are_entries(&graph, sum.entries(), &[("z", 0, 1)])
-            && are_entries(&graph, difference.entries(), &[("a", 0, 4), ("z", 0, -1)])
-            && one.plus(alloc, &other).ok()?.entries() == sum.entries()
-            && one.minus(alloc, &other).ok()?.entries() == difference.entries()
-            && part.entries() == sum.entries(),
-    )
+    let sum = are_both(alloc, &graph, &other, false, &[("z", 0, 1)])?;
+    let left = &[("a", 0, 4), ("z", 0, -1)];
+    let difference = are_both(alloc, &graph, &other, true, left)?;
+    Some(sum && difference && is_part(alloc, &graph, &other)?)
 }
 
 #[test]

@@ -4,7 +4,7 @@
 use crate::opened::only;
 use crate::timelines::memory::Heap;
 use nd_breaks::{Atom, Condition};
-use nd_cluster::{Allowed, Cluster, Next};
+use nd_cluster::{Allowed, Cluster, Next, Step};
 use nd_examples::{HELD, LINE, Told, make, point, reach as cluster_of, start, step_of};
 use nd_reach::{ReachFault, Reached, reach};
 use nd_testing::{Refusing, in_turn};
@@ -127,32 +127,75 @@ fn searches_out_of_memory(rt: HostRuntime) {
 /// Two steps that put a change into the queue of a processor.
 const QUEUEING: &[Told] = &[Told::Feed(0, "a", &[], Next::Next), Told::All(0)];
 
-/// Returns a cluster with so many changes in the queue of its processor: each receive leads to the only next state.
-fn queued<A: Allocator + Copy>(json: Global, alloc: A, count: u32) -> Option<Cluster<A>> {
-    let mut cluster = start(json, alloc, LINE, 1)?;
+/// How many processors there are, the changes that the first puts into each queue, and how many it then receives from itself.
+type Queues = (u32, u32, u32);
+
+/// Returns a cluster with such queues.
+fn queued<A: Allocator + Copy>(json: Global, alloc: A, queues: Queues) -> Option<Cluster<A>> {
+    let (n, count, received) = queues;
+    let mut cluster = start(json, alloc, LINE, n)?;
     for _ in 0..count {
         for told in QUEUEING {
             let step = step_of(alloc, cluster.graph(), told)?;
             make(&mut cluster, &step)?;
         }
     }
+    for _ in 0..received {
+        make(&mut cluster, &Step::Receive { from: 0, to: 0 })?;
+    }
     Some(cluster)
 }
 
-/// The search along so long a way that a state on it is saved.
-static LONG: Row = (LINE, NOTHING, NONE, 1000, Wanted::Way(130));
+/// Queues, and the search for a state in which processor 0 has passed the last epoch that is fed.
+type Along = (Queues, Row);
 
-fn refused_along<A: Allocator + Copy>(heap: &Heap, json: Global, alloc: A) -> Option<u64> {
-    let cluster = queued(json, alloc, 130)?;
-    refused_from(heap, alloc, &cluster, 129, &LONG)
+/// The search along so long a way that a state on it is saved: each receive leads to the only next state.
+static LONG: Along = ((1, 130, 0), (LINE, NOTHING, NONE, 1000, Wanted::Way(130)));
+
+/// The search of all orders of a receive of processor 0 and of so many of processor 1 that one state and the next are
+/// farther apart than a walk goes. The walker is brought there from the start.
+static APART: Along = (
+    (2, 20, 19),
+    (LINE, NOTHING, NONE, 1000, Wanted::Nowhere(42, true)),
+);
+
+/// The same with so many receives that the walker is brought there from a saved state.
+static FAR_APART: Along = (
+    (2, 140, 139),
+    (LINE, NOTHING, NONE, 1000, Wanted::Nowhere(282, true)),
+);
+
+fn refused_along<A: Allocator + Copy>(
+    heap: &Heap,
+    json: Global,
+    alloc: A,
+    along: &Along,
+) -> Option<u64> {
+    let (queues, row) = along;
+    let cluster = queued(json, alloc, *queues)?;
+    refused_from(heap, alloc, &cluster, queues.1.saturating_sub(1), row)
 }
 
 #[test]
 fn long_ways_out_of_memory(rt: HostRuntime) {
     let heap = Refusing::new(rt.alloc());
-    let count = refused_along(&heap, rt.alloc(), &heap);
-    assert!(rt; matches!(count, Some(n) if n > 130));
-    assert!(rt; heap.live() == 0);
+    for along in [&LONG, &APART] {
+        let count = refused_along(&heap, rt.alloc(), &heap, along);
+        assert!(rt; matches!(count, Some(n) if n > 130));
+        assert!(rt; heap.live() == 0);
+    }
+}
+
+/// Returns whether a search with ample memory returns what is wanted.
+fn is_found_along(alloc: Global, along: &Along) -> Option<()> {
+    let (queues, row) = along;
+    let cluster = queued(alloc, alloc, *queues)?;
+    search(alloc, &cluster, &passed(&cluster, 0)?, row)
+}
+
+#[test]
+fn far_states(rt: HostRuntime) {
+    assert!(rt; is_found_along(rt.alloc(), &FAR_APART).is_some());
 }
 
 /// Returns whether a search of so many states is refused before it begins, without a request for memory.

@@ -1,4 +1,5 @@
--- The grammar of a script (this project's own rule): the words that a line may have under "do", each with the keys of its object.
+-- The grammar of a script (this project's own rule): the words that a line may have under "do", each with the keys of its object and the
+-- first version whose scripts have it.
 use Rattle.std.specs.Prelude.{ℕ, ◌&&◌, List, [], ◌∷◌, if◌then◌else◌, Option, Some, None, option_and_then, codes}
 use Rattle.std.specs.Str.{bytes_eq}
 use Rattle.serde_json.specs.Data.{Data}
@@ -15,134 +16,85 @@ use Rattle.rewind_forms.specs.declared.form.CommandForm.TheVariants as command
 use Rattle.rewind_forms.specs.declared.form.QueryForm.{QueryForm}
 use Rattle.rewind_forms.specs.declared.form.QueryForm.TheVariants as query
 
--- ---- the words, each with its keys, in the order of their bytes, and with the form that they mean
+-- ---- the words, each with its keys, in the order of their bytes, with the first version that has them, and with the form that they
+-- mean
 
 -- the keys that each send has
 abbrev pub send_keys : List (List ℕ)
 send_keys = codes "do" ∷ codes "p" ∷ codes "port" ∷ codes "time" ∷ codes "values" ∷ codes "vertex" ∷ []
 
-unfoldable pub steps : List (List ℕ × List (List ℕ) × StepForm)
+unfoldable pub steps : List (List ℕ × List (List ℕ) × Version × StepForm)
 steps =
-    (codes "feed", codes "do" ∷ codes "next" ∷ codes "p" ∷ codes "values" ∷ codes "vertex" ∷ [], step.Feed)
-    ∷ (codes "take", codes "do" ∷ codes "edge" ∷ codes "p" ∷ codes "time" ∷ codes "value" ∷ [], step.Take)
-    ∷ (codes "notice", codes "do" ∷ codes "p" ∷ codes "time" ∷ codes "vertex" ∷ [], step.Notice)
-    ∷ (codes "release", codes "do" ∷ codes "p" ∷ codes "time" ∷ codes "vertex" ∷ [], step.Release)
-    ∷ (codes "release", codes "do" ∷ codes "p" ∷ codes "time" ∷ codes "to" ∷ codes "vertex" ∷ [], step.Move)
-    ∷ (codes "release", codes "do" ∷ codes "keep" ∷ codes "p" ∷ codes "time" ∷ codes "to" ∷ codes "vertex" ∷ [], step.Keep)
-    ∷ (codes "send", send_keys, step.Send)
-    ∷ (codes "send", codes "at" ∷ send_keys, step.Send)
-    ∷ (codes "send", codes "dest" ∷ send_keys, step.Send)
-    ∷ (codes "send", codes "at" ∷ codes "dest" ∷ send_keys, step.Send)
-    ∷ (codes "broadcast", codes "do" ∷ codes "p" ∷ [], step.Broadcast)
-    ∷ (codes "broadcast", codes "do" ∷ codes "p" ∷ codes "part" ∷ [], step.Part)
-    ∷ (codes "receive", codes "do" ∷ codes "from" ∷ codes "to" ∷ [], step.Receive)
+    (codes "feed", codes "do" ∷ codes "next" ∷ codes "p" ∷ codes "values" ∷ codes "vertex" ∷ [], First, step.Feed)
+    ∷ (codes "take", codes "do" ∷ codes "edge" ∷ codes "p" ∷ codes "time" ∷ codes "value" ∷ [], First, step.Take)
+    ∷ (codes "notice", codes "do" ∷ codes "p" ∷ codes "time" ∷ codes "vertex" ∷ [], First, step.Notice)
+    ∷ (codes "release", codes "do" ∷ codes "p" ∷ codes "time" ∷ codes "vertex" ∷ [], Fifth, step.Release)
+    ∷ (codes "release", codes "do" ∷ codes "p" ∷ codes "time" ∷ codes "to" ∷ codes "vertex" ∷ [], Fifth, step.Move)
+    ∷ (codes "release", codes "do" ∷ codes "keep" ∷ codes "p" ∷ codes "time" ∷ codes "to" ∷ codes "vertex" ∷ [], Sixth, step.Keep)
+    ∷ (codes "send", send_keys, Sixth, step.Send)
+    ∷ (codes "send", codes "at" ∷ send_keys, Sixth, step.Send)
+    ∷ (codes "send", codes "dest" ∷ send_keys, Sixth, step.Send)
+    ∷ (codes "send", codes "at" ∷ codes "dest" ∷ send_keys, Sixth, step.Send)
+    ∷ (codes "broadcast", codes "do" ∷ codes "p" ∷ [], First, step.Broadcast)
+    ∷ (codes "broadcast", codes "do" ∷ codes "p" ∷ codes "part" ∷ [], First, step.Part)
+    ∷ (codes "receive", codes "do" ∷ codes "from" ∷ codes "to" ∷ [], First, step.Receive)
     ∷ []
 
-unfoldable pub commands : List (List ℕ × List (List ℕ) × CommandForm)
+unfoldable pub commands : List (List ℕ × List (List ℕ) × Version × CommandForm)
 commands =
-    (codes "back", codes "do" ∷ [], command.Back)
-    ∷ (codes "redo", codes "do" ∷ [], command.Redo)
-    ∷ (codes "jump", codes "do" ∷ codes "to" ∷ [], command.Jump)
-    ∷ (codes "run", codes "do" ∷ codes "limit" ∷ [], command.Run)
-    ∷ (codes "run", codes "do" ∷ codes "limit" ∷ codes "only" ∷ [], command.RunOnly)
-    ∷ (codes "run", codes "do" ∷ codes "limit" ∷ codes "seed" ∷ [], command.RunBySeed)
-    ∷ (codes "run", codes "do" ∷ codes "limit" ∷ codes "only" ∷ codes "seed" ∷ [], command.RunOnlyBySeed)
-    ∷ (codes "break", codes "do" ∷ codes "when" ∷ [], command.Break)
-    ∷ (codes "unbreak", codes "do" ∷ codes "id" ∷ [], command.Unbreak)
+    (codes "back", codes "do" ∷ [], First, command.Back)
+    ∷ (codes "redo", codes "do" ∷ [], First, command.Redo)
+    ∷ (codes "jump", codes "do" ∷ codes "to" ∷ [], First, command.Jump)
+    ∷ (codes "run", codes "do" ∷ codes "limit" ∷ [], First, command.Run)
+    ∷ (codes "run", codes "do" ∷ codes "limit" ∷ codes "only" ∷ [], Fifth, command.RunOnly)
+    ∷ (codes "run", codes "do" ∷ codes "limit" ∷ codes "seed" ∷ [], Seventh, command.RunBySeed)
+    ∷ (codes "run", codes "do" ∷ codes "limit" ∷ codes "only" ∷ codes "seed" ∷ [], Seventh, command.RunOnlyBySeed)
+    ∷ (codes "break", codes "do" ∷ codes "when" ∷ [], First, command.Break)
+    ∷ (codes "unbreak", codes "do" ∷ codes "id" ∷ [], First, command.Unbreak)
     ∷ []
 
-unfoldable pub queries : List (List ℕ × List (List ℕ) × QueryForm)
+unfoldable pub queries : List (List ℕ × List (List ℕ) × Version × QueryForm)
 queries =
-    (codes "state", codes "do" ∷ [], query.State)
-    ∷ (codes "count", codes "at" ∷ codes "do" ∷ codes "time" ∷ [], query.Count)
-    ∷ (codes "before", codes "do" ∷ codes "from" ∷ codes "to" ∷ [], query.Before)
-    ∷ (codes "view", codes "do" ∷ codes "q" ∷ [], query.View)
-    ∷ (codes "frontier", codes "do" ∷ codes "q" ∷ [], query.Frontier)
-    ∷ (codes "passed", codes "at" ∷ codes "do" ∷ codes "q" ∷ codes "time" ∷ [], query.Passed)
-    ∷ (codes "search", codes "do" ∷ codes "hi" ∷ codes "lo" ∷ codes "when" ∷ codes "workers" ∷ [], query.Search)
-    ∷ (codes "export", codes "do" ∷ [], query.Export)
-    ∷ (codes "why", codes "at" ∷ codes "do" ∷ codes "q" ∷ codes "time" ∷ [], query.Why)
-    ∷ (codes "changes", codes "at" ∷ codes "do" ∷ codes "hi" ∷ codes "lo" ∷ codes "q" ∷ codes "time" ∷ [], query.Changes)
-    ∷ (codes "step", codes "do" ∷ codes "to" ∷ [], query.Step)
-    ∷ (codes "candidates", codes "do" ∷ [], query.Candidates)
-    ∷ (codes "effect", codes "do" ∷ codes "to" ∷ [], query.Effect)
-    ∷ (codes "turns", codes "do" ∷ codes "hi" ∷ codes "lo" ∷ codes "when" ∷ [], query.Turns)
-    ∷ (codes "frontier", codes "at" ∷ codes "do" ∷ codes "q" ∷ [], query.FrontierAt)
-    ∷ (codes "why", codes "at" ∷ codes "before" ∷ codes "do" ∷ codes "q" ∷ codes "time" ∷ [], query.WhyBefore)
-    ∷ (codes "reach", codes "do" ∷ codes "limit" ∷ codes "when" ∷ [], query.Reach)
-    ∷ (codes "reach", codes "do" ∷ codes "limit" ∷ codes "when" ∷ codes "with" ∷ [], query.ReachWith)
+    (codes "state", codes "do" ∷ [], First, query.State)
+    ∷ (codes "count", codes "at" ∷ codes "do" ∷ codes "time" ∷ [], First, query.Count)
+    ∷ (codes "before", codes "do" ∷ codes "from" ∷ codes "to" ∷ [], First, query.Before)
+    ∷ (codes "view", codes "do" ∷ codes "q" ∷ [], First, query.View)
+    ∷ (codes "frontier", codes "do" ∷ codes "q" ∷ [], First, query.Frontier)
+    ∷ (codes "passed", codes "at" ∷ codes "do" ∷ codes "q" ∷ codes "time" ∷ [], First, query.Passed)
+    ∷ (codes "search", codes "do" ∷ codes "hi" ∷ codes "lo" ∷ codes "when" ∷ codes "workers" ∷ [], First, query.Search)
+    ∷ (codes "export", codes "do" ∷ [], Second, query.Export)
+    ∷ (codes "why", codes "at" ∷ codes "do" ∷ codes "q" ∷ codes "time" ∷ [], Third, query.Why)
+    ∷ (codes "changes", codes "at" ∷ codes "do" ∷ codes "hi" ∷ codes "lo" ∷ codes "q" ∷ codes "time" ∷ [], Third, query.Changes)
+    ∷ (codes "step", codes "do" ∷ codes "to" ∷ [], Third, query.Step)
+    ∷ (codes "candidates", codes "do" ∷ [], Fourth, query.Candidates)
+    ∷ (codes "effect", codes "do" ∷ codes "to" ∷ [], Fourth, query.Effect)
+    ∷ (codes "turns", codes "do" ∷ codes "hi" ∷ codes "lo" ∷ codes "when" ∷ [], Fourth, query.Turns)
+    ∷ (codes "frontier", codes "at" ∷ codes "do" ∷ codes "q" ∷ [], Fourth, query.FrontierAt)
+    ∷ (codes "why", codes "at" ∷ codes "before" ∷ codes "do" ∷ codes "q" ∷ codes "time" ∷ [], Fourth, query.WhyBefore)
+    ∷ (codes "reach", codes "do" ∷ codes "limit" ∷ codes "when" ∷ [], Seventh, query.Reach)
+    ∷ (codes "reach", codes "do" ∷ codes "limit" ∷ codes "when" ∷ codes "with" ∷ [], Seventh, query.ReachWith)
     ∷ []
-
--- ---- the first version whose scripts have a form
-
-abbrev pub step_since : StepForm → Version
-step_since step.Feed = First
-step_since step.Take = First
-step_since step.Notice = First
-step_since step.Release = Fifth
-step_since step.Move = Fifth
-step_since step.Keep = Sixth
-step_since step.Send = Sixth
-step_since step.Broadcast = First
-step_since step.Part = First
-step_since step.Receive = First
-
-abbrev pub command_since : CommandForm → Version
-command_since command.Back = First
-command_since command.Redo = First
-command_since command.Jump = First
-command_since command.Run = First
-command_since command.RunOnly = Fifth
-command_since command.RunBySeed = Seventh
-command_since command.RunOnlyBySeed = Seventh
-command_since command.Break = First
-command_since command.Unbreak = First
-
-abbrev pub query_since : QueryForm → Version
-query_since query.State = First
-query_since query.Count = First
-query_since query.Before = First
-query_since query.View = First
-query_since query.Frontier = First
-query_since query.Passed = First
-query_since query.Search = First
-query_since query.Export = Second
-query_since query.Why = Third
-query_since query.Changes = Third
-query_since query.Step = Third
-query_since query.Candidates = Fourth
-query_since query.Effect = Fourth
-query_since query.Turns = Fourth
-query_since query.FrontierAt = Fourth
-query_since query.WhyBefore = Fourth
-query_since query.Reach = Seventh
-query_since query.ReachWith = Seventh
-
-abbrev pub since : Form → Version
-since (Step form) = step_since form
-since (Command form) = command_since form
-since (Query form) = query_since form
 
 -- ---- the form of a line
 
--- the meaning in the first row that has this word and the keys of this object
-abbrev pub find : {A : Type 0} → List (List ℕ × List (List ℕ) × A) → List ℕ → Data → Option A
+-- the version and the meaning in the first row that has this word and the keys of this object
+abbrev pub find : {A : Type 0} → List (List ℕ × List (List ℕ) × Version × A) → List ℕ → Data → Option (Version × A)
 find [] word d = None
-find (row ∷ rows) word d = if bytes_eq word row.0 && has_keys row.1 d then Some row.2 else find rows word d
+find (row ∷ rows) word d = if bytes_eq word row.0 && has_keys row.1 d then Some (row.2, row.3) else find rows word d
 
-abbrev pub one_of : Option StepForm → Option CommandForm → Option QueryForm → Option Form
-one_of (Some form) command query = Some (Step form)
-one_of None (Some form) query = Some (Command form)
-one_of None None (Some form) = Some (Query form)
+abbrev pub one_of : Option (Version × StepForm) → Option (Version × CommandForm) → Option (Version × QueryForm) → Option (Version × Form)
+one_of (Some (since, form)) command query = Some (since, Step form)
+one_of None (Some (since, form)) query = Some (since, Command form)
+one_of None None (Some (since, form)) = Some (since, Query form)
 one_of None None None = None
 
--- what the word and the keys of an object mean
-abbrev pub meant : List ℕ → Data → Option Form
+-- what the word and the keys of an object mean, and the first version whose scripts have it
+abbrev pub meant : List ℕ → Data → Option (Version × Form)
 meant word d = one_of (find steps word d) (find commands word d) (find queries word d)
 
--- a form, if a script of this version has it
-abbrev pub known_to : Version → Form → Option Form
-known_to v form = if includes v (since form) then Some form else None
+-- a form, if a script of version v has what the version `since` introduced
+abbrev pub known_to : Version → Version × Form → Option Form
+known_to v (since, form) = if includes v since then Some form else None
 
 -- the form of an object in a script of this version
 unfoldable pub form_of : Version → Data → Option Form

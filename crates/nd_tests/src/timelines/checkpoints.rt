@@ -4,7 +4,7 @@ use crate::timelines::memory::Heap;
 use crate::timelines::run_all;
 use nd_breaks::Breaks;
 use nd_cluster::{Next, Step, Values};
-use nd_examples::{ENDLESS, Told, start, step_of};
+use nd_examples::{ENDLESS, Told, is_state, start, state_text, step_of};
 use nd_testing::{MANY, Refusing};
 use nd_timeline::Timeline;
 use std::alloc::{Allocator, Global};
@@ -35,16 +35,35 @@ fn meets_run<A: Allocator + Copy>(
     Some((heap.relent(n), goes_on))
 }
 
-/// Does the same for a jump over 1,500 steps, which begins at a checkpoint.
+/// Returns whether a timeline is in the state in which another is after a jump to the same position.
+fn is_same<A: Allocator + Copy>(
+    json: Global,
+    timeline: &Timeline<A>,
+    other: &mut Timeline<A>,
+) -> Option<bool> {
+    other.jump(timeline.at()).ok()?;
+    let text = state_text(json, other.cluster())?;
+    Some(is_state(json, timeline.cluster(), text.as_str()))
+}
+
+/// Does the same for a jump over 1,500 steps, which begins at a checkpoint. Where the jump stops, the state is that of a
+/// timeline to which no request is refused.
 fn meets_jump<A: Allocator + Copy>(
     heap: &Heap,
+    json: Global,
     timeline: &mut Timeline<A>,
+    other: &mut Timeline<A>,
     n: u64,
 ) -> Option<(bool, bool)> {
     timeline.jump(2600).ok()?;
     heap.refuse(n);
     let goes_on = timeline.jump(1100).is_ok();
-    Some((heap.relent(n), goes_on))
+    let met = heap.relent(n);
+    if is_same(json, timeline, other)? {
+        Some((met, goes_on))
+    } else {
+        None
+    }
 }
 
 /// Returns how many refusals were unnoticed before the first of such runs that met none.
@@ -64,9 +83,10 @@ fn unnoticed_in_runs<A: Allocator + Copy>(heap: &Heap, json: Global, alloc: A) -
 fn unnoticed_in_jumps<A: Allocator + Copy>(heap: &Heap, json: Global, alloc: A) -> Option<u64> {
     let mut timeline = looped(json, alloc)?;
     run_all(&mut timeline, 2598, &Breaks::new(alloc).ok()?).ok()?;
+    let mut other = timeline.copy(alloc).ok()?;
     let mut count: u64 = 0;
     for n in 0..MANY {
-        let (met, goes_on) = meets_jump(heap, &mut timeline, n)?;
+        let (met, goes_on) = meets_jump(heap, json, &mut timeline, &mut other, n)?;
         if !met {
             return if goes_on { Some(count) } else { None };
         }
