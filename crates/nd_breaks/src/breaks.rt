@@ -6,12 +6,10 @@ ghost use Rattle.nd_breaks.specs.Breaks.{NoneFrom, NoHit, FirstHit, IsLeastFree,
 
 use crate::Condition;
 use nd_cluster::Cluster;
+use nd_time::limits::MAX_BREAKS;
 use std::alloc::{AllocError, Allocator, Global};
 use std::marker::Model;
 use thiserror::Error;
-
-/// The maximum number of breakpoints that are set at the same time.
-const MAX_BREAKS: usize = 32;
 
 /// All ids are in use.
 #[derive(Clone, Copy, Debug, PartialEq, Eq, Drop, Error)]

@@ -7,12 +7,10 @@ ghost use Rattle.nd_breaks.specs.Conditions.{AtomHolds, LiteralHolds, Holds, Hol
 use arrayvec::ArrayVec;
 use nd_cluster::Cluster;
 use nd_paths::Pointstamp;
+use nd_time::limits::MAX_LITERALS;
 use std::alloc::{AllocError, Allocator, Global};
 use std::marker::Model;
 use thiserror::Error;
-
-/// The maximum number of literals in a condition.
-const MAX_LITERALS: usize = 8;
 
 /// The condition already has `MAX_LITERALS` literals.
 #[derive(Clone, Copy, Debug, PartialEq, Eq, Drop, Error)]

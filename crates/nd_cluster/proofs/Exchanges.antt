@@ -107,10 +107,6 @@ module _ {A : Type 0} (s : ClusterState) (p : ℕ) (part : Part A) (c : DeltaVal
 
 -- ---- a receive
 
--- the reason why nothing is received, in terms of the state and of what is stored of it
-pub fails_in : (v w : DeltaValue) (q r : List DeltaValue) (e f : Refusal) → v ≡ w → q ≡ r → e ≡ f → ReceiveFails w q f → ReceiveFails v r e
-fails_in v w q r e f a b c h = subst (λ x. ReceiveFails x r e) (sym a) (subst (λ x. ReceiveFails w x e) b (subst (ReceiveFails w q) (sym c) h))
-
 abbrev error_or : {T E : Type 0} → E → Result T E → E
 error_or d (Ok v) = d
 error_or d (Err e) = e

@@ -23,7 +23,7 @@ use Rattle.nd_time.specs.Limits.{max_processors}
 use Rattle.nd_view.specs.Kept.{Kept}
 use Rattle.nd_mesh.specs.Mesh.{IsMesh, queue}
 use Rattle.nd_protocol.specs.Fitting.{DeltaFits, DeltaIsWithin, IsAtVertex, IsAtLocation, ProcessorFits, ProcessorIsWithin, IsOrdered, IsState}
-use Rattle.nd_steps.specs.Seen.{seen}
+use Rattle.nd_protocol.specs.Seen.{seen}
 use Rattle.nd_cluster.specs.Parts.{IsRecordKey, IsItem, IsSinkKey, ItemsFit, RowFits, RowIsWithin}
 use Rattle.std.proofs.lemmas.Bool.{cases_lt}
 

@@ -24,7 +24,7 @@ use Rattle.nd_processor.specs.HeldLaws.{no_records, in_requests-weight}
 use Rattle.nd_protocol.specs.State.{truth}
 use Rattle.nd_protocol.specs.Start.{start}
 use Rattle.nd_protocol.specs.Fitting.{IsOrdered}
-use Rattle.nd_steps.specs.Seen.{seen}
+use Rattle.nd_protocol.specs.Seen.{seen}
 use Rattle.nd_cluster.specs.Starting.{tokens_weigh, requests_weigh, IsProcessorCount, IsStartFault, fault_of}
 use Rattle.nd_protocol.specs.TruthLaws.{truth-count}
 

@@ -4,7 +4,7 @@ use Rattle.nd_graph.specs.Graph.{Dataflow}
 use Rattle.nd_view.specs.Kept.{IsFor}
 use Rattle.nd_protocol.specs.State.{ClusterState}
 use Rattle.nd_protocol.specs.Fitting.{IsState}
-use Rattle.nd_steps.specs.Seen.{seen}
+use Rattle.nd_protocol.specs.Seen.{seen}
 use Rattle.nd_cluster.specs.declared.saved.Saved.{Saved}
 
 -- the state of a cluster with this graph and what is saved

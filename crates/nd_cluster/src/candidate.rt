@@ -4,11 +4,9 @@ ghost use Rattle.nd_protocol.specs.State.{ClusterState};
 ghost use Rattle.nd_cluster.specs.Candidates.{AreComplete, AreListed, IsAnswer, IsAnswered, Lists, candidates, candidates_of};
 
 use crate::{Cluster, NoMemory, Refusal, Step};
+use nd_time::limits::MAX_TOLD;
 use std::alloc::{AllocError, Allocator, Global};
 use std::marker::Model;
-
-/// The most candidates that are listed.
-const MAX_LISTED: usize = 1_000;
 
 /// A step that a run could try, and what stands in its way.
 #[derive(Drop)]
@@ -108,7 +106,7 @@ impl<A: Allocator + Copy> Cluster<A> {
     fn list_step(&self, listed: &mut Candidates<A>, step: Step<A>) -> Result<(), NoMemory>
         ensures { OnOk result (Lists self.now (step ∷ []) listed.old listed.new) }
     {
-        if listed.list.as_slice().len() >= MAX_LISTED {
+        if listed.list.as_slice().len() >= MAX_TOLD {
             listed.more = true;
             return Ok(());
         }

@@ -1,9 +1,8 @@
 //! A cluster of processors, and its readers.
-ghost use Rattle.std.specs.Prelude.{◌≡◌, ◌<◌, ◌↔◌, All, length, IfSome, IsNone, IsTrue, option_copied, slice_get};
+ghost use Rattle.std.specs.Prelude.{◌≡◌, ◌<◌, ◌↔◌, length, IfSome, IsNone, IsTrue, option_copied, slice_get};
 ghost use Rattle.nd_delta.specs.Least.{IsLeast};
 ghost use Rattle.nd_view.specs.View.{IsPassed, IsBlocker};
 ghost use Rattle.nd_view.specs.Kept.{IsFor};
-ghost use Rattle.nd_view.specs.Views.{maps};
 ghost use Rattle.nd_protocol.specs.State.{processor, view, queue};
 ghost use Rattle.nd_protocol.specs.Fitting.{IsState};
 ghost use Rattle.nd_protocol.specs.Invariant.{KeepsProtocol, IsFinished};
@@ -13,8 +12,7 @@ use nd_graph::Graph;
 use nd_mesh::Mesh;
 use nd_paths::{Paths, Pointstamp};
 use nd_processor::Processor;
-use nd_protocol::protocol_is_safe;
-use nd_steps::Parts;
+use nd_protocol::{Parts, protocol_is_safe};
 use nd_view::View;
 use std::alloc::{Allocator, Global};
 use std::marker::Model;
@@ -114,15 +112,6 @@ impl<A: Allocator + Copy> Cluster<A> {
         protocol_is_safe::<A>();
         let _ = self.n();
         self.view(q).blocker(self.paths(), point)
-    }
-
-    // Returns the views.
-    pub(crate) fn views(&self) -> &[View<A>]
-        ensures maps { maps result.now ≡ self.now.views }
-        ensures paths { All (IsFor self.now.graph) result.now }
-        ensures state { IsState self.now }
-    {
-        self.parts.views()
     }
 
     // Returns the queues.

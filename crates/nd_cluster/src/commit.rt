@@ -7,7 +7,7 @@ ghost use Rattle.nd_cluster.specs.Records.{IsPlanned, Leads, IsCommitted, StaysF
 
 use crate::Cluster;
 use nd_protocol::{NoMemory, protocol_is_safe, steps_keep_protocol};
-use nd_steps::Record;
+use nd_steps::{Record, commit_record, undo_record};
 use std::alloc::Allocator;
 
 impl<A: Allocator + Copy> Cluster<A> {
@@ -24,7 +24,7 @@ impl<A: Allocator + Copy> Cluster<A> {
     {
         protocol_is_safe::<A>();
         steps_keep_protocol::<A>();
-        let Ok(()) = self.parts.commit(planned) else {
+        let Ok(()) = commit_record(&mut self.parts, planned) else {
             return Err(NoMemory);
         };
         Ok(())
@@ -36,7 +36,7 @@ impl<A: Allocator + Copy> Cluster<A> {
         ensures ok { OnOk result ((s : ClusterState) → Leads made.now s self.old → self.new ≡ s) }
         ensures err { OnErr result (self.new ≡ self.old) }
     {
-        let Ok(()) = self.parts.back(self.alloc, made) else {
+        let Ok(()) = undo_record(self.alloc, &mut self.parts, made) else {
             return Err(NoMemory);
         };
         Ok(())

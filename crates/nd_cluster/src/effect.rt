@@ -6,7 +6,7 @@ ghost use Rattle.nd_steps.specs.Effect.{lists_of, effect_of, altered_count};
 ghost use Rattle.nd_cluster.specs.Records.{IsPlanned};
 
 use crate::Cluster;
-use nd_steps::{Effect, Record};
+use nd_steps::{Effect, Record, record_effect};
 use std::alloc::{AllocError, Allocator};
 
 impl<A: Allocator + Copy> Cluster<A> {
@@ -19,6 +19,6 @@ impl<A: Allocator + Copy> Cluster<A> {
         ensures count { IfOk result (λ e. altered_count (lists_of e)
             ≡ changed self.now (stepped self.now planned.now.step)) }
     {
-        self.parts.effect(alloc, planned)
+        record_effect(alloc, &self.parts, planned)
     }
 }

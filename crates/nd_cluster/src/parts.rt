@@ -5,21 +5,21 @@ ghost use Rattle.nd_map.specs.Counts.{entries as counts_of};
 ghost use Rattle.nd_delta.specs.Delta.{entries as entries_of};
 ghost use Rattle.nd_processor.specs.State.{items_at};
 ghost use Rattle.nd_cluster.specs.Parts.{IsToken, IsSink, IsRecordKey, IsItem, IsSinkKey, ItemsFit, RowFits, RowIsWithin};
-ghost use Rattle.nd_steps.specs.Seen.{seen};
+ghost use Rattle.nd_protocol.specs.Seen.{seen};
 ghost use Rattle.nd_mesh.specs.Mesh.{queue};
 ghost use Rattle.nd_view.specs.Kept.{Kept, IsFor};
 ghost use Rattle.nd_protocol.specs.Ranges.{IsValue};
 ghost use Rattle.nd_protocol.specs.Fitting.{IsAtVertex, IsAtEdge, IsAtLocation, DeltaFits, DeltaIsWithin, ProcessorFits, ProcessorIsWithin, IsState};
 
 use crate::Cluster;
-use crate::start::MAX_PROCESSORS;
 use nd_delta::{Delta, LargeDelta};
 use nd_graph::{Graph, Op};
 use nd_mesh::Mesh;
 use nd_paths::{Paths, Pointstamp};
 use nd_processor::{Processor, SinkKey, ValueAt, token_point};
-use nd_protocol::times_are_small;
-use nd_steps::{Parts, op_at};
+use nd_protocol::{Parts, times_are_small};
+use nd_steps::op_at;
+use nd_time::limits::MAX_PROCESSORS;
 use nd_vertex::{ItemKey, VertexState};
 use nd_view::View;
 use std::alloc::Allocator;
@@ -302,26 +302,23 @@ fn mesh_fits<A: Allocator + Copy>(graph: &Graph<A>, mesh: &Mesh<A>) -> bool
 }
 
 // Returns whether parts are those of a state that a cluster may be in.
-fn parts_fit<A: Allocator + Copy>(
-    paths: &Paths<A>,
-    processors: &[Processor<A>],
-    views: &[View<A>],
-    mesh: &Mesh<A>,
-) -> bool
-    ensures { IsTrue result ↔ IsState (seen paths.now processors.now views.now mesh.now) }
+fn parts_fit<A: Allocator + Copy>(parts: &Parts<A>) -> bool
+    ensures { IsTrue result ↔ IsState parts.now }
 {
-    let graph = paths.graph();
+    let graph = parts.paths().graph();
     // The clauses of these two say that edges join vertices, and that depths agree along the arcs.
     let _ = graph.vertices();
     let _ = graph.all_arcs();
-    let n = processors.len();
-    if n == 0 || n > MAX_PROCESSORS as usize {
+    let views = parts.views();
+    let mesh = parts.mesh();
+    let n = parts.n();
+    if n == 0 || n > MAX_PROCESSORS {
         return false;
     }
     if views.len() != n || mesh.n() != n {
         return false;
     }
-    if !processors_fit(graph, processors) {
+    if !processors_fit(graph, parts.processors()) {
         return false;
     }
     if !views_fit(graph, views) {
@@ -348,12 +345,10 @@ impl<A: Allocator + Copy> Cluster<A> {
             → ¬ IsState (seen graph.now processors.items views.items mesh) }
     {
         let _ = graph;
-        if !parts_fit(&paths, &processors, &views, &mesh) {
+        let parts = Parts::new(paths, processors, views, mesh);
+        if !parts_fit(&parts) {
             return None;
         }
-        Some(Cluster {
-            alloc,
-            parts: Parts::new(paths, processors, views, mesh),
-        })
+        Some(Cluster { alloc, parts })
     }
 }

@@ -47,8 +47,7 @@ impl<A: Allocator + Copy> Cluster<A> {
         if sender >= self.n() || receiver >= self.n() {
             return Err(Refusal::NoProcessor);
         }
-        let view = self.view(receiver);
-        let change = planned_front(self.alloc, view, self.mesh(), sender, receiver)?;
+        let change = planned_front(self.alloc, &self.parts, sender, receiver)?;
         Ok(Changes::Received { from, to, change })
     }
 

@@ -33,15 +33,7 @@ impl<A: Allocator + Copy> Cluster<A> {
         ensures finished { IsFinishedBefore self.now question.now.strictly question.now.point
             → IfOk result (All (λ a. a.held ≡ [])) }
     {
-        let answer = why(
-            alloc,
-            self.paths(),
-            self.processors(),
-            self.views(),
-            self.mesh(),
-            question,
-        );
-        let Ok(reasons) = answer else {
+        let Ok(reasons) = why(alloc, &self.parts, question) else {
             return Err(NoMemory);
         };
         Ok(reasons)
@@ -108,9 +100,7 @@ impl<A: Allocator + Copy> Cluster<A> {
     fn is_finished(&self, point: &Pointstamp, strictly: bool) -> bool
         ensures { IsTrue result ↔ IsFinishedBefore self.now strictly point.now }
     {
-        let _ = self.views();
-        let _ = self.mesh();
-        finished(self.paths(), self.processors(), point, strictly)
+        finished(&self.parts, point, strictly)
     }
 
     /// Returns whether nothing outstanding is at or before a pointstamp.

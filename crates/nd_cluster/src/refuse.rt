@@ -16,10 +16,8 @@ use nd_processor::ValueAt;
 use nd_protocol::{Batch, Times};
 use nd_steps::op_at;
 use nd_time::Timestamp;
+use nd_time::limits::MAX_VALUES;
 use std::alloc::Allocator;
-
-/// The most values of one feed or send.
-pub(crate) const MAX_VALUES: usize = 1024;
 
 fn is_input(op: Op) -> bool
     ensures { IsTrue result ↔ (op ≡ operator.Input) }

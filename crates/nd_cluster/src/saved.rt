@@ -5,7 +5,7 @@ ghost use Rattle.nd_cluster.specs.Saved.{state_in, FitsIn, IsSaved};
 use crate::Cluster;
 use nd_mesh::Mesh;
 use nd_processor::Processor;
-use nd_steps::{Parts, copied_processors, copied_views};
+use nd_protocol::{Parts, copied_processors, copied_views};
 use nd_view::View;
 use std::alloc::{AllocError, Allocator, Global};
 
@@ -26,9 +26,9 @@ impl<A: Allocator + Copy> Cluster<A> {
         ensures { IfOk result (IsSaved self.now) }
     {
         Ok(Saved {
-            processors: copied_processors(alloc, self.processors())?,
-            views: copied_views(alloc, self.views())?,
-            mesh: self.mesh().copy(alloc)?,
+            processors: copied_processors(alloc, self.parts.processors())?,
+            views: copied_views(alloc, self.parts.views())?,
+            mesh: self.parts.mesh().copy(alloc)?,
         })
     }
 

@@ -11,6 +11,7 @@ use crate::Cluster;
 use nd_map::Iter;
 use nd_mesh::Mesh;
 use nd_processor::Processor;
+use nd_protocol::Parts;
 use nd_view::View;
 use std::alloc::Allocator;
 
@@ -128,12 +129,12 @@ fn after_mesh<A: Allocator + Copy>(mut left: u64, mesh: &Mesh<A>) -> Option<u64>
 }
 
 // Returns what is left after everything in a cluster that steps change.
-fn after_cluster<A: Allocator + Copy>(left: u64, cluster: &Cluster<A>) -> Option<u64>
-    ensures { Leaves left (size_of cluster.now) result }
+fn after_cluster<A: Allocator + Copy>(left: u64, parts: &Parts<A>) -> Option<u64>
+    ensures { Leaves left (size_of parts.now) result }
 {
-    let mut rest = after_processors(left, cluster.processors())?;
-    rest = after_views(rest, cluster.views())?;
-    after_mesh(rest, cluster.mesh())
+    let mut rest = after_processors(left, parts.processors())?;
+    rest = after_views(rest, parts.views())?;
+    after_mesh(rest, parts.mesh())
 }
 
 impl<A: Allocator + Copy> Cluster<A> {
@@ -142,6 +143,6 @@ impl<A: Allocator + Copy> Cluster<A> {
     pub fn has_at_most(&self, limit: u64) -> bool
         ensures { IsTrue result ↔ (size_of self.now ≤ limit) }
     {
-        after_cluster(limit, self).is_some()
+        after_cluster(limit, &self.parts).is_some()
     }
 }

@@ -16,15 +16,12 @@ use nd_map::Iter;
 use nd_mesh::Mesh;
 use nd_paths::{PathFault, Paths, Pointstamp};
 use nd_processor::{Processor, token_point};
-use nd_protocol::starts_keep_protocol;
-use nd_steps::Parts;
+use nd_protocol::{Parts, starts_keep_protocol};
 use nd_time::Code;
+use nd_time::limits::MAX_PROCESSORS;
 use nd_view::View;
 use std::alloc::{AllocError, Allocator};
 use thiserror::Error;
-
-// The most processors of a cluster.
-pub(crate) const MAX_PROCESSORS: u32 = 16;
 
 /// Why a cluster does not start.
 #[derive(Clone, Copy, Debug, PartialEq, Eq, Drop, Error)]
@@ -156,7 +153,7 @@ impl<A: Allocator + Copy> Cluster<A> {
         ensures fault { IfErr result (IsStartFault graph n) }
     {
         starts_keep_protocol();
-        if n == 0 || n > MAX_PROCESSORS {
+        if n == 0 || n > MAX_PROCESSORS as u32 {
             return Err(StartFault::BadCount);
         }
         // The clauses of these two say that edges join vertices, and that depths agree along the arcs.

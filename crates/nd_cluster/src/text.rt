@@ -16,12 +16,6 @@ impl<A: Allocator + Copy> Cluster<A> {
         ensures { OnOk result
             (SendsValue (state_data self.now) (S.written out.old) (S.written out.new)) }
     {
-        send_state(
-            out,
-            self.graph(),
-            self.processors(),
-            self.views(),
-            self.mesh(),
-        )
+        send_state(out, &self.parts)
     }
 }

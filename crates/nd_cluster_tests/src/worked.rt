@@ -7,8 +7,9 @@ use nd_examples::{
     point, pop, processors_of, push, reach, unpop, unpush,
 };
 use nd_graph::Graph;
-use nd_mesh::{LIMIT, Mesh, PushFault};
+use nd_mesh::{Mesh, PushFault};
 use nd_paths::{Constants, Paths, Summary};
+use nd_time::limits::MAX_QUEUE;
 use std::alloc::Global;
 
 /// Builds a summary, or returns `None` if there are too many constants.
@@ -122,7 +123,7 @@ fn change_limits(rt: HostRuntime) {
 
 /// Pushes the change until the queue refuses it: how often it took it, if it is full then.
 fn pushed(mesh: &mut Mesh, change: &Delta) -> Option<usize> {
-    for n in 0..=LIMIT {
+    for n in 0..=MAX_QUEUE {
         match push(mesh, 0, change)? {
             Ok(()) => {}
             Err(PushFault::QueueFull) => return Some(n),
@@ -137,7 +138,7 @@ fn is_full_at_the_limit(alloc: Global) -> Option<bool> {
     let graph = graph_of(alloc, alloc, LINE)?;
     let change = change(alloc, &graph, &[("a", 0, 1)])?;
     let mut mesh = Mesh::new(alloc, 1).ok()?;
-    let is_full = pushed(&mut mesh, &change)? == LIMIT;
+    let is_full = pushed(&mut mesh, &change)? == MAX_QUEUE;
     pop(&mut mesh, 0, 0)?;
     Some(is_full && push(&mut mesh, 0, &change)?.is_ok())
 }

@@ -48,7 +48,7 @@ pub(crate) fn combined_at<C: Change, A: Allocator>(
     if minus { here - there } else { here + there }
 }
 
-// Returns whether some entry of the difference, or of the sum, exceeds `LIMIT`.
+// Returns whether some entry of the difference, or of the sum, exceeds `MAX_COUNT`.
 pub(crate) fn exceeds_limit<C: Change, A: Allocator>(
     change: &C,
     other: &Delta<A>,

@@ -127,7 +127,7 @@ impl<A: Allocator> LargeDelta<A> {
         part_of(self, alloc, points)
     }
 
-    /// Returns whether some entry of the difference, or of the sum, exceeds `LIMIT`.
+    /// Returns whether some entry of the difference, or of the sum, exceeds `MAX_COUNT`.
     pub fn is_overfull(&self, other: &Delta<A>, minus: bool) -> bool
         ensures passes { IsTrue result ↔ IsTooLarge (combined minus self.now other.now) }
         ensures within { IsWithin self.now × IsWithin other.now }

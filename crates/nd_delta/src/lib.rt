@@ -18,16 +18,14 @@ use change::{combined_at, exceeds_limit, part_of};
 pub use large::LargeDelta;
 use nd_map::SortedMap;
 use nd_paths::{Paths, Pointstamp};
+use nd_time::limits::MAX_COUNT;
 use std::alloc::{AllocError, Allocator, Global};
 use std::marker::Model;
-
-/// The greatest absolute value of an entry.
-pub const LIMIT: i64 = 1_099_511_627_776;
 
 /// Why a delta was not changed.
 #[derive(Debug, Clone, Copy, PartialEq, Eq)]
 pub enum DeltaFault {
-    /// An entry would exceed `LIMIT` in absolute value.
+    /// An entry would exceed `MAX_COUNT` in absolute value.
     DeltaFull,
     /// Out of memory.
     Memory,
@@ -41,7 +39,7 @@ impl From<AllocError> for DeltaFault {
     }
 }
 
-/// A finite map from pointstamps to integers other than 0, each at most `LIMIT` in absolute value.
+/// A finite map from pointstamps to integers other than 0, each at most `MAX_COUNT` in absolute value.
 #[derive(Drop)]
 pub struct Delta<A: Allocator = Global> {
     map: SortedMap<Pointstamp, i64, A>,
@@ -60,14 +58,14 @@ impl<A: Allocator> Model for Delta<A> {
     ghost invariant = { λ a. IsKept a.map };
 }
 
-// Returns whether a number is greater than `LIMIT` in absolute value.
+// Returns whether a number is greater than `MAX_COUNT` in absolute value.
 fn passes_limit(n: i64) -> bool
     ensures { IsTrue result ↔ (max_count < unsigned_abs n) }
 {
-    n > LIMIT || n < -LIMIT
+    n.unsigned_abs() > MAX_COUNT
 }
 
-// Returns the sum of two integers, or `None` if it exceeds `LIMIT`.
+// Returns the sum of two integers, or `None` if it exceeds `MAX_COUNT`.
 fn sum_within(held: i64, n: i64) -> Option<i64>
     ensures none { IsNone result ↔ (max_count < unsigned_abs (held +ℤ n)) }
     ensures some { IfSome result (λ sum. sum ≡ held +ℤ n) }

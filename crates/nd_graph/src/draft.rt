@@ -13,21 +13,10 @@ use crate::check::fault_of;
 use crate::names::edges_between;
 use crate::{Graph, GraphFault, Name, Op, Route, Vertex};
 use nd_json::{boolean_at, has_keys, integer_at, list_at, small_at, text_at};
-use nd_time::MAX_DEPTH;
+use nd_time::limits::{MAX_DEPTH, MAX_DEPTH_V1, MAX_LOCATIONS, MAX_LOCATIONS_V5, MAX_PORTS};
 use serde_json::Value;
 use std::alloc::{Allocator, Global};
 use std::marker::Model;
-
-/// The maximum nesting of loops in a graph of version 1.
-const MAX_DEPTH_V1: usize = 4;
-
-/// The maximum number of locations of a graph; the next one is that of the versions before 6 (this project's own rule).
-const MAX_LOCATIONS: usize = 256;
-
-const MAX_LOCATIONS_V5: usize = 64;
-
-/// The maximum number of output ports of an opaque vertex.
-const MAX_PORTS: u32 = 16;
 
 /// An edge as it is written.
 #[derive(Debug, Drop)]

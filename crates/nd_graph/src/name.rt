@@ -9,17 +9,15 @@ ghost use Rattle.std.proofs.Common.{rules};
 ghost use Rattle.nd_graph.specs.Name.{is_name, is_plain};
 
 use arrayvec::ArrayString;
+use nd_time::limits::MAX_NAME;
 use std::fmt;
 use std::hash::{Hash, Hasher};
 use std::marker::Model;
 
-// The maximum number of bytes of a name.
-const MAX_NAME: usize = 32;
-
 /// A name: 1 to 32 bytes, each from `!` to `~`.
 #[derive(Drop)]
 pub struct Name {
-    text: ArrayString<32>,
+    text: ArrayString<MAX_NAME>,
 }
 
 impl Model for Name {

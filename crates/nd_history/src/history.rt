@@ -6,11 +6,9 @@ ghost use Rattle.nd_history.specs.History.{IsHistory, shown_at};
 
 use crate::{Changed, Changes, Told};
 use nd_cluster::Cluster;
+use nd_time::limits::MAX_TOLD;
 use nd_timeline::{Timeline, Walk};
 use std::alloc::{AllocError, Allocator};
-
-/// The maximum number of changes that are listed.
-const MAX_TOLD: usize = 1_000;
 
 /// What is observed of a cluster, as a number (this project's own rule).
 pub(crate) trait Observation {

@@ -8,11 +8,9 @@ ghost use Rattle.nd_history.specs.Works.{IsResult};
 
 use crate::Gate;
 use nd_breaks::Condition;
+use nd_time::limits::PIECE_LENGTH;
 use nd_timeline::{Timeline, Walk};
 use std::alloc::{AllocError, Allocator};
-
-/// The number of positions in a piece.
-const PIECE_LENGTH: u64 = 16;
 
 /// The positions from `lo` to `hi`, both included.
 #[derive(Clone, Copy, Drop)]

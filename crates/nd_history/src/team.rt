@@ -10,12 +10,10 @@ use crate::Gate;
 use crate::board::{Ticket, end_board, gather, open_board, share};
 use crate::piece::Scan;
 use crate::work::{Job, Searched, Team, Work};
+use nd_time::limits::MAX_WORKERS;
 use std::alloc::{AllocError, Allocator};
 use std::thread;
 use std::thread::Threads;
-
-/// The maximum number of workers that are started.
-pub(crate) const MAX_WORKERS: u64 = 64;
 
 // Allocates the memory for what a worker claims and finds.
 fn room<A: Allocator + Copy>(alloc: A, pieces: u64) -> Result<Searched<A>, AllocError>

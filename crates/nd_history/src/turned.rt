@@ -24,10 +24,11 @@ impl<A: Allocator> PositionList<A> {
     pub(crate) fn of(alloc: A, changes: &[Changed]) -> Result<PositionList<A>, AllocError>
         ensures { IfOk result (λ ks. ks ≡ map (λ c. c.position) changes.now) }
     {
-        let positions = changes.iter().map(|changed| changed.position);
-        Ok(PositionList {
-            items: positions.collect(alloc)?,
-        })
+        let mut items = Vec::with_capacity(alloc, changes.len())?;
+        for changed in changes {
+            items.push(changed.position)?;
+        }
+        Ok(PositionList { items })
     }
 
     /// Returns the positions.

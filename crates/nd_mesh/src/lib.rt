@@ -5,4 +5,4 @@ mod fifo;
 mod mesh;
 mod outbox;
 
-pub use mesh::{LIMIT, Mesh, NotPut, PushFault, QueueEmpty};
+pub use mesh::{Mesh, NotPut, PushFault, QueueEmpty};

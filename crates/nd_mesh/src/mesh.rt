@@ -7,16 +7,14 @@ ghost use Rattle.nd_mesh.specs.Mesh.{row, queue, pushed, unpushed, popped, unpop
 
 use crate::outbox::Outbox;
 use nd_delta::Delta;
+use nd_time::limits::MAX_QUEUE;
 use std::alloc::{AllocError, Allocator, Global};
 use std::marker::Model;
-
-/// The maximum number of changes in a queue.
-pub const LIMIT: usize = 65_536;
 
 /// Why a change was not put into a queue.
 #[derive(Debug, Clone, Copy, PartialEq, Eq)]
 pub enum PushFault {
-    /// A queue contains `LIMIT` changes.
+    /// A queue contains `MAX_QUEUE` changes.
     QueueFull,
     /// Out of memory.
     Memory,
@@ -129,7 +127,7 @@ impl<A: Allocator + Copy> Mesh<A> {
         self.waiting == 0
     }
 
-    /// Returns whether a queue from this processor contains `LIMIT` changes.
+    /// Returns whether a queue from this processor contains `MAX_QUEUE` changes.
     pub fn is_full(&self, from: usize) -> bool
         requires { from < length self.now }
         ensures full { IsTrue result ↔ HasQueue IsFull (row self.now from) }
@@ -207,7 +205,7 @@ impl<A: Allocator + Copy> Mesh<A> {
         ensures full { IsErrAnd result (λ e. e.fault ≡ PushFault.QueueFull) ↔ IsFull (queue self.old from to) }
         ensures mesh { IsMesh self.new }
     {
-        if self.rows[from].queue_len(to) >= LIMIT {
+        if self.rows[from].queue_len(to) >= MAX_QUEUE {
             return Err(NotPut {
                 fault: PushFault::QueueFull,
                 change,

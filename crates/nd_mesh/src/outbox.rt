@@ -5,8 +5,8 @@ ghost use Rattle.std.specs.Prelude.{◌≡◌, ◌↔◌, ◌∷◌, ◌<◌, �
 ghost use Rattle.nd_mesh.specs.Mesh.{appended, without_newest, without_oldest, first_mapped, HasQueue, IsFull, IsVacant};
 
 use crate::fifo::Queue;
-use crate::mesh::LIMIT;
 use nd_delta::Delta;
+use nd_time::limits::MAX_QUEUE;
 use std::alloc::{AllocError, Allocator, Global};
 use std::marker::Model;
 
@@ -52,12 +52,12 @@ impl<A: Allocator + Copy> Outbox<A> {
         self.queues.len()
     }
 
-    /// Returns whether one of the queues contains `LIMIT` changes.
+    /// Returns whether one of the queues contains `MAX_QUEUE` changes.
     pub fn has_full(&self) -> bool
         ensures { IsTrue result ↔ HasQueue IsFull self.now }
     {
         for queue in &self.queues {
-            if queue.len() >= LIMIT {
+            if queue.len() >= MAX_QUEUE {
                 return true;
             }
         }

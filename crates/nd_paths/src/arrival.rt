@@ -9,7 +9,8 @@ ghost use Rattle.nd_paths.specs.Arrival.{HoldsFew, AreTurned};
 use crate::Summary;
 use crate::table::{KEEPS, look};
 use arrayvec::ArrayVec;
-use nd_time::{MAX_DEPTH, Timestamp};
+use nd_time::Timestamp;
+use nd_time::limits::MAX_DEPTH;
 use std::marker::Model;
 
 /// The time at the end of a walk: an epoch and the counters of the loops around the location, outermost

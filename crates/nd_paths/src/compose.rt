@@ -6,7 +6,8 @@ ghost use Rattle.nd_paths.specs.Summary.{applied, composed, left_by, IsInLimits}
 use crate::Summary;
 use crate::summary::Constants;
 use arrayvec::ArrayVec;
-use nd_time::{MAX_DEPTH, Timestamp};
+use nd_time::Timestamp;
+use nd_time::limits::MAX_DEPTH;
 
 impl Summary {
     /// Returns the summary of a walk with this summary, followed by a walk with the other.

@@ -7,7 +7,7 @@ ghost use Rattle.nd_time.specs.Time.{IsLexicallyAtMost};
 
 use arrayvec::ArrayVec;
 use nd_graph::Action;
-use nd_time::MAX_DEPTH;
+use nd_time::limits::MAX_DEPTH;
 use std::marker::Model;
 
 /// The constants of a summary, at most `MAX_DEPTH`, outermost first.

@@ -10,7 +10,7 @@ ghost use Rattle.nd_paths.specs.Table.{held, start_row, CanRelax, Relaxed, Quiet
 use crate::Summary;
 use arrayvec::ArrayVec;
 use nd_graph::{Arc, Graph};
-use nd_time::MAX_DEPTH;
+use nd_time::limits::MAX_DEPTH;
 use std::alloc::{AllocError, Allocator};
 
 /// The number of values of `keep`: a walk keeps 0 to `MAX_DEPTH` counters.

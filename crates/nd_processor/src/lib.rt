@@ -9,4 +9,4 @@ mod tally;
 pub use key::{SinkKey, ValueAt};
 pub use processor::Processor;
 pub use start::token_point;
-pub use tally::{COUNT_LIMIT, CountFault};
+pub use tally::CountFault;

@@ -11,7 +11,8 @@ ghost use Rattle.nd_processor.specs.Start.{first_tokens as tokens_from, first_re
 use nd_graph::{Graph, Op};
 use nd_map::{GrowingMap, SortedMap};
 use nd_paths::Pointstamp;
-use nd_time::{MAX_DEPTH, Timestamp};
+use nd_time::Timestamp;
+use nd_time::limits::MAX_DEPTH;
 use nd_vertex::VertexState;
 use std::alloc::{AllocError, Allocator};
 

@@ -11,17 +11,15 @@ ghost use Rattle.nd_processor.specs.Edits.{IsTooMany};
 ghost use Rattle.nd_processor.specs.declared.tally.CountFault.TheVariants.{CountFull, Memory};
 
 use nd_map::{Between, Edit, GrowingMap, Iter, Key};
+use nd_time::limits::MAX_COUNT;
 use std::alloc::{AllocError, Allocator, Global};
 use std::marker::Model;
 use thiserror::Error;
 
-/// The maximum count.
-pub const COUNT_LIMIT: u64 = 1_099_511_627_776;
-
 /// Why a count was not changed.
 #[derive(Clone, Copy, Debug, PartialEq, Eq, Drop, Error)]
 pub enum CountFault {
-    /// The count would exceed `COUNT_LIMIT`.
+    /// The count would exceed `MAX_COUNT`.
     #[error("a count would pass its limit")]
     CountFull,
     /// An allocation failed.
@@ -57,7 +55,7 @@ fn raised(count: u64, n: u64) -> Edit<u64>
     ensures more { count + n ≤ max_count → result ≡ Put (count + n) }
     ensures full { max_count < count + n → result ≡ Keep }
 {
-    if n > COUNT_LIMIT - count {
+    if n > MAX_COUNT - count {
         return Edit::Keep;
     }
     Edit::Put(count + n)
@@ -137,7 +135,7 @@ impl<K: Key, A: Allocator + Copy> Tally<K, A> {
         if n == 0 {
             return Ok(());
         }
-        if n > COUNT_LIMIT {
+        if n > MAX_COUNT {
             return Err(CountFault::CountFull);
         }
         match self.map.put_or_edit(key, n, |count| raised(count, n)) {

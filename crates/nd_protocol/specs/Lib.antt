@@ -1,4 +1,5 @@
 pub mod State
+pub mod Seen
 pub mod Steps
 pub mod Times
 pub mod Batches

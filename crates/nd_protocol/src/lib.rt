@@ -5,6 +5,7 @@ mod batch;
 mod laws;
 mod numbers;
 mod part;
+mod parts;
 mod processors;
 mod refusal;
 mod step;
@@ -18,6 +19,7 @@ pub use laws::{
 pub use nd_time::NoMemory;
 pub use numbers::times_are_small;
 pub use part::{Part, Points};
+pub use parts::{Parts, copied_processors, copied_views};
 pub use processors::Processors;
 pub use refusal::Refusal;
 pub use step::{Next, Step};

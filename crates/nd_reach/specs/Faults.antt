@@ -1,14 +1,11 @@
 -- When a question for what can still happen is refused, and how a reply reports it (this project's own rule).
 use Rattle.std.specs.Prelude.{◌≡◌, ◌⊎◌, ℕ, ◌<◌, ◌≤◌, codes}
 use Rattle.nd_time.specs.Code.{Code, coded}
+use Rattle.nd_time.specs.Limits.{max_reached}
 use Rattle.nd_protocol.specs.Refusals as refusals
 use Rattle.nd_protocol.specs.declared.refusal.Refusal.TheVariants as refusal
 use Rattle.nd_reach.specs.declared.fault.ReachFault.{ReachFault}
 use Rattle.nd_reach.specs.declared.fault.ReachFault.TheVariants.{BadRange, Memory}
-
--- the most states that are looked at
-abbrev pub max_reached : ℕ
-max_reached = 1000000
 
 -- a question may be for 1 state and up to 1,000,000
 pub record MayReach (limit : ℕ) : Type 0 where

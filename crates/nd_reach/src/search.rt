@@ -16,10 +16,8 @@ use crate::way::way_to;
 use crate::{Allowed, ReachFault, Reached, forms_tell_states};
 use nd_breaks::Condition;
 use nd_cluster::{Cluster, Record, Saved};
+use nd_time::limits::MAX_REACHED;
 use std::alloc::{AllocError, Allocator};
-
-/// The maximum number of states that are looked at.
-const MAX_REACHED: u64 = 1_000_000;
 
 /// The most moves that a walk makes from where it begins.
 const MOST_MOVES: u32 = 128;

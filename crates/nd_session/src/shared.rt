@@ -9,11 +9,9 @@ ghost use Rattle.nd_session.specs.Faults.{TestFails, CommandFails, CopyFails, En
 
 use crate::{Client, Receipt, SessionFault, State};
 use nd_history::Snapshot;
+use nd_time::limits::MAX_CLIENTS;
 use nd_timeline::Command;
 use std::alloc::{AllocError, Allocator, Global};
-
-/// The maximum number of clients over a session's life.
-const MAX_CLIENTS: u64 = 64;
 
 // A `State`, and how many clients have entered.
 #[derive(Drop)]

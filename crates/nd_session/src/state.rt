@@ -15,12 +15,10 @@ use nd_breaks::Breaks;
 use nd_history::Snapshot;
 use nd_map::GrowingMap;
 use nd_protocol::starts_keep_protocol;
+use nd_time::limits::MAX_LOG;
 use nd_timeline::{Command, Machine, Reply, Timeline, moves_keep_timelines};
 use std::alloc::{AllocError, Allocator, Global};
 use std::marker::Model;
-
-/// The maximum number of entries of a log.
-const MAX_LOG: usize = 1_000_000;
 
 /// A debugger machine with the log of the commands that it has answered (this project's own rule).
 pub struct State<A: Allocator + Copy = Global> {

@@ -5,7 +5,6 @@ ghost use Rattle.serde_json.specs.Events.{SendsValue};
 ghost use Rattle.nd_map.specs.Counts.{entries as numbers};
 ghost use Rattle.nd_delta.specs.Delta.{entries};
 ghost use Rattle.nd_mesh.specs.Mesh.{queue, row as queues_from};
-ghost use Rattle.nd_view.specs.Views.{maps};
 ghost use Rattle.nd_state_json.specs.Sent.{SendsEach};
 ghost use Rattle.nd_state_json.specs.StateText.{entries_data, item_data, items_data, queue_data, queues_data, processor_data, row, state_data};
 
@@ -15,6 +14,7 @@ use nd_graph::Graph;
 use nd_map::{Iter, Key};
 use nd_mesh::Mesh;
 use nd_processor::Processor;
+use nd_protocol::Parts;
 use nd_vertex::ItemKey;
 use nd_view::View;
 use serde::Serializer;
@@ -169,18 +169,17 @@ fn send_processor<S: Serializer, A: Allocator + Copy>(
 // Sends the processors, each with its view.
 fn send_processors<S: Serializer, A: Allocator + Copy>(
     out: &mut S,
-    graph: &Graph<A>,
-    processors: &[Processor<A>],
-    views: &[View<A>],
+    parts: &Parts<A>,
 ) -> Result<(), S::Error>
-    requires { length views.now ≡ length processors.now }
+    requires { length parts.now.views ≡ length parts.now.processors }
     ensures { OnOk result (SendsValue (row (map
-        (λ e. processor_data graph.now e.0 e.1) (zip processors.now (maps views.now))))
+        (λ e. processor_data parts.now.graph e.0 e.1)
+        (zip parts.now.processors parts.now.views)))
         (S.written out.old) (S.written out.new)) }
 {
-    out.begin_seq(Some(processors.len()))?;
-    for p in 0..processors.len() {
-        send_processor(out, graph, &processors[p], &views[p])?;
+    out.begin_seq(Some(parts.n()))?;
+    for p in 0..parts.n() {
+        send_processor(out, parts.graph(), parts.processor(p), parts.view(p))?;
     }
     out.end_seq()
 }
@@ -244,26 +243,18 @@ fn send_queues<S: Serializer, A: Allocator + Copy>(
 
 /// Sends the state of a cluster: its processors, each with its view, and its queues. Each list is in the
 /// order of its keys.
-#[tactic(auto, unfolding(crate::specs::StateText::state_data))]
 pub fn send_state<S: Serializer, A: Allocator + Copy>(
     out: &mut S,
-    graph: &Graph<A>,
-    processors: &[Processor<A>],
-    views: &[View<A>],
-    mesh: &Mesh<A>,
+    parts: &Parts<A>,
 ) -> Result<(), S::Error>
-    requires { length views.now ≡ length processors.now }
-    ensures { OnOk result (SendsValue (state_data (record {
-      graph = graph.now;
-      processors = processors.now;
-      views = maps views.now;
-      queues = mesh.now;
-    })) (S.written out.old) (S.written out.new)) }
+    requires { length parts.now.views ≡ length parts.now.processors }
+    ensures { OnOk result
+        (SendsValue (state_data parts.now) (S.written out.old) (S.written out.new)) }
 {
     out.begin_map(Some(2))?;
     out.key("processors")?;
-    send_processors(out, graph, processors, views)?;
+    send_processors(out, parts)?;
     out.key("queues")?;
-    send_queues(out, graph, mesh)?;
+    send_queues(out, parts.graph(), parts.mesh())?;
     out.end_map()
 }

@@ -14,7 +14,7 @@ use Rattle.nd_protocol.specs.Exchange.{received}
 use Rattle.nd_protocol.specs.Fitting.{IsState}
 use Rattle.nd_steps.specs.Stored.{received-front}
 use Rattle.nd_steps.specs.Records.{CanReceive, Receives}
-use Rattle.nd_steps.specs.Seen.{seen}
+use Rattle.nd_protocol.specs.Seen.{seen}
 
 -- one of the stored views, and all views after it is replaced
 module _ (t : ClusterState) (g : Dataflow) (ps : List ProcessorState) (vs : List Kept) (m : List (List (List DeltaValue))) (is : seen g ps vs m ≡ t) (to : ℕ) where

@@ -13,7 +13,7 @@ use Rattle.nd_protocol.specs.Exchange.{sent}
 use Rattle.nd_protocol.specs.Fitting.{IsState}
 use Rattle.nd_steps.specs.Changes.{made, made_in}
 use Rattle.nd_steps.specs.Records.{Sends}
-use Rattle.nd_steps.specs.Seen.{seen}
+use Rattle.nd_protocol.specs.Seen.{seen}
 use Rattle.nd_steps.specs.declared.change.Change.{Change}
 use Rattle.nd_steps.proofs.Ends.{IsNewest}
 

@@ -4,7 +4,6 @@ pub mod Standing
 pub mod Changes
 pub mod Undone
 pub mod Plans
-pub mod Seen
 pub mod Stored
 pub mod Records
 pub mod Flows

@@ -7,13 +7,12 @@ ghost use Rattle.nd_protocol.specs.Fitting.{IsState};
 ghost use Rattle.nd_steps.specs.Refused.{LeavesUpright, LeavesAlone, PartFails, supporting_points as points_that_support};
 ghost use Rattle.nd_steps.specs.Records.{CanSend, Sends, CameFrom, IsBackAt};
 
-use crate::Parts;
 use crate::operator::op_at;
 use nd_delta::{Delta, LargeDelta};
 use nd_graph::Graph;
 use nd_paths::{Paths, Pointstamp};
 use nd_processor::Processor;
-use nd_protocol::{Part, Refusal};
+use nd_protocol::{Part, Parts, Refusal};
 use std::alloc::{AllocError, Allocator};
 
 // Returns whether `change` has no entry at any of the pointstamps.
@@ -124,34 +123,40 @@ pub fn planned_part<A: Allocator + Copy>(
     Ok(change)
 }
 
-impl<A: Allocator + Copy> Parts<A> {
-    // Processor p sends a part of what is unsent to every processor. What may be refused comes first.
-    pub(crate) fn send(&mut self, p: usize, part: &Delta<A>) -> Result<(), AllocError>
-        requires state { IsState self.old }
-        requires sends { CanSend self.old p part.now }
-        ensures ok { OnOk result (self.new ≡ sent self.old p part.now) }
-        ensures err { OnErr result (self.new ≡ self.old) }
-    {
-        let Ok(()) = self.mesh.push_all(p, part) else {
-            return Err(AllocError);
-        };
-        let processor = &mut self.processors[p];
-        processor.take_part(part);
-        Ok(())
-    }
+// Processor p sends a part of what is unsent to every processor. What may be refused comes first.
+pub(crate) fn send<A: Allocator + Copy>(
+    parts: &mut Parts<A>,
+    p: usize,
+    part: &Delta<A>,
+) -> Result<(), AllocError>
+    requires state { IsState parts.old }
+    requires sends { CanSend parts.old p part.now }
+    ensures ok { OnOk result (parts.new ≡ sent parts.old p part.now) }
+    ensures err { OnErr result (parts.new ≡ parts.old) }
+{
+    let Ok(()) = parts.mesh.push_all(p, part) else {
+        return Err(AllocError);
+    };
+    let processor = &mut parts.processors[p];
+    processor.take_part(part);
+    Ok(())
+}
 
-    // Takes back what p sent last. What may be refused comes first.
-    pub(crate) fn unsend(&mut self, p: usize, part: &Delta<A>) -> Result<(), AllocError>
-        requires { CameFrom (λ s. Sends s p part.now self.old) }
-        ensures ok { OnOk result (IsBackAt (λ s. Sends s p part.now self.old) self.new) }
-        ensures err { OnErr result (self.new ≡ self.old) }
-    {
-        let processor = &mut self.processors[p];
-        processor.put_part(part)?;
-        // No queue is empty.
-        let Ok(()) = self.mesh.unpush_all(p) else {
-            return Ok(());
-        };
-        Ok(())
-    }
+// Takes back what p sent last. What may be refused comes first.
+pub(crate) fn unsend<A: Allocator + Copy>(
+    parts: &mut Parts<A>,
+    p: usize,
+    part: &Delta<A>,
+) -> Result<(), AllocError>
+    requires { CameFrom (λ s. Sends s p part.now parts.old) }
+    ensures ok { OnOk result (IsBackAt (λ s. Sends s p part.now parts.old) parts.new) }
+    ensures err { OnErr result (parts.new ≡ parts.old) }
+{
+    let processor = &mut parts.processors[p];
+    processor.put_part(part)?;
+    // No queue is empty.
+    let Ok(()) = parts.mesh.unpush_all(p) else {
+        return Ok(());
+    };
+    Ok(())
 }

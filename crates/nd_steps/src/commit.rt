@@ -4,49 +4,58 @@ ghost use Rattle.nd_protocol.specs.State.{ClusterState};
 ghost use Rattle.nd_protocol.specs.Fitting.{IsState};
 ghost use Rattle.nd_steps.specs.Records.{Makes, CameFrom, IsWhere, IsBackAt};
 
+use crate::broadcast::{send, unsend};
+use crate::receive::{receive, unreceive};
+use crate::run::{make_all, undo_all};
 use crate::told::Told;
-use crate::{Changes, Parts, Record};
+use crate::{Changes, Record};
+use nd_protocol::Parts;
 use std::alloc::{AllocError, Allocator};
 
-impl<A: Allocator + Copy> Parts<A> {
-    /// Applies the changes of `planned`. After an error the parts are as they were.
-    pub fn commit(&mut self, planned: &Record<A>) -> Result<(), AllocError>
-        requires state { IsState self.old }
-        requires makes { (t : ClusterState) × Makes self.old planned.now t }
-        ensures ok { OnOk result (IsWhere (Makes self.old planned.now) self.new) }
-        ensures err { OnErr result (self.new ≡ self.old) }
-    {
-        match &planned.changes {
-            Changes::Each(changes) => self.make_all(&Told::whole(changes)),
-            Changes::Flowed(flow) => self.make_all(&Told::whole(&flow.told(&planned.step))),
-            Changes::Fed(at) => {
-                let rest = at.rest(&planned.step);
-                self.make_all(&at.told(&planned.step, &rest))
-            }
-            Changes::Sent { p, part } => self.send(*p as usize, part),
-            Changes::Received { from, to, change } => {
-                self.receive(*from as usize, *to as usize, change)
-            }
+/// Applies the changes of `planned`. After an error the parts are as they were.
+pub fn commit_record<A: Allocator + Copy>(
+    parts: &mut Parts<A>,
+    planned: &Record<A>,
+) -> Result<(), AllocError>
+    requires state { IsState parts.old }
+    requires makes { (t : ClusterState) × Makes parts.old planned.now t }
+    ensures ok { OnOk result (IsWhere (Makes parts.old planned.now) parts.new) }
+    ensures err { OnErr result (parts.new ≡ parts.old) }
+{
+    match &planned.changes {
+        Changes::Each(changes) => make_all(parts, &Told::whole(changes)),
+        Changes::Flowed(flow) => make_all(parts, &Told::whole(&flow.told(&planned.step))),
+        Changes::Fed(at) => {
+            let rest = at.rest(&planned.step);
+            make_all(parts, &at.told(&planned.step, &rest))
+        }
+        Changes::Sent { p, part } => send(parts, *p as usize, part),
+        Changes::Received { from, to, change } => {
+            receive(parts, *from as usize, *to as usize, change)
         }
     }
+}
 
-    /// Undoes the changes of `made`, in the state to which they led. After an error the parts are as they were.
-    pub fn back(&mut self, alloc: A, made: &Record<A>) -> Result<(), AllocError>
-        requires { CameFrom (λ s. Makes s made.now self.old) }
-        ensures ok { OnOk result (IsBackAt (λ s. Makes s made.now self.old) self.new) }
-        ensures err { OnErr result (self.new ≡ self.old) }
-    {
-        match &made.changes {
-            Changes::Each(changes) => self.undo_all(&Told::whole(changes)),
-            Changes::Flowed(flow) => self.undo_all(&Told::whole(&flow.told(&made.step))),
-            Changes::Fed(at) => {
-                let rest = at.rest(&made.step);
-                self.undo_all(&at.told(&made.step, &rest))
-            }
-            Changes::Sent { p, part } => self.unsend(*p as usize, part),
-            Changes::Received { from, to, change } => {
-                self.unreceive(alloc, *from as usize, *to as usize, change)
-            }
+/// Undoes the changes of `made`, in the state to which they led. After an error the parts are as they were.
+pub fn undo_record<A: Allocator + Copy>(
+    alloc: A,
+    parts: &mut Parts<A>,
+    made: &Record<A>,
+) -> Result<(), AllocError>
+    requires { CameFrom (λ s. Makes s made.now parts.old) }
+    ensures ok { OnOk result (IsBackAt (λ s. Makes s made.now parts.old) parts.new) }
+    ensures err { OnErr result (parts.new ≡ parts.old) }
+{
+    match &made.changes {
+        Changes::Each(changes) => undo_all(parts, &Told::whole(changes)),
+        Changes::Flowed(flow) => undo_all(parts, &Told::whole(&flow.told(&made.step))),
+        Changes::Fed(at) => {
+            let rest = at.rest(&made.step);
+            undo_all(parts, &at.told(&made.step, &rest))
+        }
+        Changes::Sent { p, part } => unsend(parts, *p as usize, part),
+        Changes::Received { from, to, change } => {
+            unreceive(alloc, parts, *from as usize, *to as usize, change)
         }
     }
 }

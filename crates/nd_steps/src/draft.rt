@@ -21,7 +21,7 @@ use std::cmp::Ordering;
 use std::mem;
 
 // The parts of a place: the map, the processor, and in the map a pointstamp and a value.
-type Parts = (u8, (u32, (Pointstamp, i64)));
+type PlaceParts = (u8, (u32, (Pointstamp, i64)));
 
 // Returns the point of a vertex, for a key without a time.
 fn timeless(vertex: usize) -> Pointstamp
@@ -34,7 +34,7 @@ fn timeless(vertex: usize) -> Pointstamp
 }
 
 // Returns the parts of a change's place.
-fn parts_of(change: &Change) -> Parts
+fn parts_of(change: &Change) -> PlaceParts
     ensures { result ≡ parts (place_of change.now) }
 {
     let (map, point, value) = match &change.slot {

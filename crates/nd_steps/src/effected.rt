@@ -17,10 +17,11 @@ use crate::draft::sorted;
 use crate::receive::count_after;
 use crate::record::copied;
 use crate::told::Told;
-use crate::{Altered, Change, Changes, Effect, Parts, Record};
+use crate::{Altered, Change, Changes, Effect, Record};
 use nd_delta::Delta;
 use nd_mesh::Mesh;
 use nd_paths::Pointstamp;
+use nd_protocol::Parts;
 use nd_view::View;
 use std::alloc::{AllocError, Allocator};
 
@@ -141,80 +142,95 @@ fn shorter<A: Allocator + Copy>(mesh: &Mesh<A>, from: u32, to: u32) -> Altered<u
     }
 }
 
-impl<A: Allocator + Copy> Parts<A> {
-    // Returns the effect of changes of the processors.
-    fn changes_effect(&self, alloc: A, changes: &Told<'_>) -> Result<Effect<A>, AllocError>
-        requires { (t : ClusterState) × RunsExactly self.now changes.now t }
-        ensures { IfOk result (IsEffectTo self.now (RunsTo self.now changes.now)) }
-    {
-        let changes = in_order(alloc, changes)?;
-        let mut effect = Effect::new(alloc);
-        effect.add_all(self.processors(), &changes)?;
-        Ok(effect)
-    }
+// Returns the effect of changes of the processors.
+fn changes_effect<A: Allocator + Copy>(
+    alloc: A,
+    parts: &Parts<A>,
+    changes: &Told<'_>,
+) -> Result<Effect<A>, AllocError>
+    requires { (t : ClusterState) × RunsExactly parts.now changes.now t }
+    ensures { IfOk result (IsEffectTo parts.now (RunsTo parts.now changes.now)) }
+{
+    let changes = in_order(alloc, changes)?;
+    let mut effect = Effect::new(alloc);
+    effect.add_all(parts.processors(), &changes)?;
+    Ok(effect)
+}
 
-    // Returns the effect of a part that processor `p` sends.
-    fn sent_effect(&self, alloc: A, p: u32, part: &Delta<A>) -> Result<Effect<A>, AllocError>
-        requires state { IsState self.now }
-        requires sends { CanSend self.now p part.now }
-        ensures { IfOk result (λ e. lists_of e ≡ effect_of self.now (sent self.now p part.now)) }
-    {
-        let mut effect = Effect::new(alloc);
-        effect.unsent = sent_list(alloc, p, part)?;
-        effect.queues = longer_list(alloc, self.mesh(), p)?;
-        Ok(effect)
-    }
+// Returns the effect of a part that processor `p` sends.
+fn sent_effect<A: Allocator + Copy>(
+    alloc: A,
+    parts: &Parts<A>,
+    p: u32,
+    part: &Delta<A>,
+) -> Result<Effect<A>, AllocError>
+    requires state { IsState parts.now }
+    requires sends { CanSend parts.now p part.now }
+    ensures { IfOk result (λ e. lists_of e ≡ effect_of parts.now (sent parts.now p part.now)) }
+{
+    let mut effect = Effect::new(alloc);
+    effect.unsent = sent_list(alloc, p, part)?;
+    effect.queues = longer_list(alloc, parts.mesh(), p)?;
+    Ok(effect)
+}
 
-    // Returns the effect of the change that processor `to` receives from the front of a queue.
-    fn received_effect(
-        &self,
-        alloc: A,
-        from: u32,
-        to: u32,
-        change: &Delta<A>,
-    ) -> Result<Effect<A>, AllocError>
-        requires state { IsState self.now }
-        requires receives { CanReceive self.now from to change.now }
-        ensures { IfOk result (λ e. lists_of e ≡ effect_of self.now (received self.now from to)) }
-    {
-        let mut effect = Effect::new(alloc);
-        effect.views = received_list(alloc, to, self.view(to as usize), change)?;
-        effect.queues.push(shorter(self.mesh(), from, to))?;
-        Ok(effect)
-    }
+// Returns the effect of the change that processor `to` receives from the front of a queue.
+fn received_effect<A: Allocator + Copy>(
+    alloc: A,
+    parts: &Parts<A>,
+    from: u32,
+    to: u32,
+    change: &Delta<A>,
+) -> Result<Effect<A>, AllocError>
+    requires state { IsState parts.now }
+    requires receives { CanReceive parts.now from to change.now }
+    ensures { IfOk result (λ e. lists_of e ≡ effect_of parts.now (received parts.now from to)) }
+{
+    let mut effect = Effect::new(alloc);
+    effect.views = received_list(alloc, to, parts.view(to as usize), change)?;
+    effect.queues.push(shorter(parts.mesh(), from, to))?;
+    Ok(effect)
+}
 
-    // Returns the effect of a record.
-    fn record_effect(&self, alloc: A, planned: &Record<A>) -> Result<Effect<A>, AllocError>
-        requires state { IsState self.now }
-        requires makes { (t : ClusterState) × MakesExactly self.now planned.now t }
-        ensures { IfOk result (IsEffectTo self.now (Makes self.now planned.now)) }
-    {
-        match &planned.changes {
-            Changes::Each(changes) => self.changes_effect(alloc, &Told::whole(changes)),
-            Changes::Flowed(flow) => {
-                self.changes_effect(alloc, &Told::whole(&flow.told(&planned.step)))
-            }
-            Changes::Fed(at) => {
-                let rest = at.rest(&planned.step);
-                self.changes_effect(alloc, &at.told(&planned.step, &rest))
-            }
-            Changes::Sent { p, part } => self.sent_effect(alloc, *p, part),
-            Changes::Received { from, to, change } => {
-                self.received_effect(alloc, *from, *to, change)
-            }
+// Lists the effect of a record.
+fn listed_effect<A: Allocator + Copy>(
+    alloc: A,
+    parts: &Parts<A>,
+    planned: &Record<A>,
+) -> Result<Effect<A>, AllocError>
+    requires state { IsState parts.now }
+    requires makes { (t : ClusterState) × MakesExactly parts.now planned.now t }
+    ensures { IfOk result (IsEffectTo parts.now (Makes parts.now planned.now)) }
+{
+    match &planned.changes {
+        Changes::Each(changes) => changes_effect(alloc, parts, &Told::whole(changes)),
+        Changes::Flowed(flow) => {
+            changes_effect(alloc, parts, &Told::whole(&flow.told(&planned.step)))
+        }
+        Changes::Fed(at) => {
+            let rest = at.rest(&planned.step);
+            changes_effect(alloc, parts, &at.told(&planned.step, &rest))
+        }
+        Changes::Sent { p, part } => sent_effect(alloc, parts, *p, part),
+        Changes::Received { from, to, change } => {
+            received_effect(alloc, parts, *from, *to, change)
         }
     }
+}
 
-    /// Returns the effect of a record on these parts, if the record names no more than it changes: each key
-    /// and each queue at which the states before and after it differ, with the values in both.
-    pub fn effect(&self, alloc: A, planned: &Record<A>) -> Result<Effect<A>, AllocError>
-        requires state { IsState self.now }
-        requires makes { (t : ClusterState) × MakesExactly self.now planned.now t }
-        ensures effect { IfOk result (λ e. (t : ClusterState)
-            → Makes self.now planned.now t → lists_of e ≡ effect_of self.now t) }
-        ensures count { IfOk result (λ e. (t : ClusterState)
-            → Makes self.now planned.now t → altered_count (lists_of e) ≡ changed self.now t) }
-    {
-        self.record_effect(alloc, planned)
-    }
+/// Returns the effect of a record on these parts, if the record names no more than it changes: each key
+/// and each queue at which the states before and after it differ, with the values in both.
+pub fn record_effect<A: Allocator + Copy>(
+    alloc: A,
+    parts: &Parts<A>,
+    planned: &Record<A>,
+) -> Result<Effect<A>, AllocError>
+    requires state { IsState parts.now }
+    requires makes { (t : ClusterState) × MakesExactly parts.now planned.now t }
+    ensures effect { IfOk result (λ e. (t : ClusterState)
+        → Makes parts.now planned.now t → lists_of e ≡ effect_of parts.now t) }
+    ensures count { IfOk result (λ e. (t : ClusterState)
+        → Makes parts.now planned.now t → altered_count (lists_of e) ≡ changed parts.now t) }
+{
+    listed_effect(alloc, parts, planned)
 }

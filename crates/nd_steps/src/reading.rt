@@ -7,8 +7,8 @@ ghost use Rattle.nd_steps.specs.Turns.{IsReadable};
 
 use crate::making::epoch_number;
 use crate::{Change, Slot};
-use nd_delta::LIMIT;
 use nd_processor::Processor;
+use nd_time::limits::MAX_COUNT;
 use std::alloc::Allocator;
 
 // Returns the integer at a key. Looks it up once.
@@ -46,7 +46,7 @@ fn reading_after(slot: &Slot, after: i128) -> Reading
     ensures { ReadsAs result slot.now after }
 {
     let leaves = after != 0;
-    let stays = after.unsigned_abs() <= LIMIT as u128;
+    let stays = after.unsigned_abs() <= u128::from(MAX_COUNT);
     match slot {
         Slot::Records(_) | Slot::Sink(_) => Reading {
             leaves,

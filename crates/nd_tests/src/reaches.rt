@@ -152,14 +152,14 @@ type Along = (Queues, Row);
 /// The search along so long a way that a state on it is saved: each receive leads to the only next state.
 static LONG: Along = ((1, 130, 0), (LINE, NOTHING, NONE, 1000, Wanted::Way(130)));
 
-/// The search of all orders of a receive of processor 0 and of so many of processor 1 that one state and the next are
-/// farther apart than a walk goes. The walker is brought there from the start.
+/// The search of all orders of one receive of processor 0 and 19 of processor 1, where a state and the next are farther
+/// apart than a walk goes. The walker is brought there from the start.
 static APART: Along = (
     (2, 20, 19),
     (LINE, NOTHING, NONE, 1000, Wanted::Nowhere(42, true)),
 );
 
-/// The same with so many receives that the walker is brought there from a saved state.
+/// The same with 139 receives of processor 1, so that the walker is brought there from a saved state.
 static FAR_APART: Along = (
     (2, 140, 139),
     (LINE, NOTHING, NONE, 1000, Wanted::Nowhere(282, true)),

@@ -1,27 +1,28 @@
--- The limits of the program. No other file states them (this project's own rule).
+-- The limits of the program, as contracts cite them (this project's own rule). Their numbers are in src/limits.rt.
 use Rattle.std.specs.Prelude.{ℕ}
+use Rattle.nd_time.specs.declared.limits.TheConstants.{MAX_DEPTH, MAX_DEPTH_V1, MAX_LOCATIONS, MAX_LOCATIONS_V5, MAX_PORTS, MAX_NAME, MAX_PROCESSORS, MAX_PROCESSORS_V1, MAX_COUNT, MAX_VALUES, MAX_QUEUE, MAX_KEPT, MAX_BREAKS, MAX_LOG, MAX_CLIENTS, MAX_WORKERS, PIECE_LENGTH, MAX_REACHED, MAX_LINE, MAX_INPUT, MAX_TOLD, MAX_LITERALS}
 
 -- the greatest depth of nested loops; `max_depth_v1` is that of a graph of version 1
 abbrev pub max_depth : ℕ
-max_depth = 6
+max_depth = MAX_DEPTH
 
 abbrev pub max_depth_v1 : ℕ
-max_depth_v1 = 4
+max_depth_v1 = MAX_DEPTH_V1
 
 -- the most locations of a graph; `max_locations_v5` is that of a script of a version before 6
 abbrev pub max_locations : ℕ
-max_locations = 256
+max_locations = MAX_LOCATIONS
 
 abbrev pub max_locations_v5 : ℕ
-max_locations_v5 = 64
+max_locations_v5 = MAX_LOCATIONS_V5
 
 -- the most output ports of an opaque vertex
 abbrev pub max_ports : ℕ
-max_ports = 16
+max_ports = MAX_PORTS
 
 -- the greatest length of a name in bytes; the next two are the least and the greatest byte in it, '!' and '~'
 abbrev pub max_name : ℕ
-max_name = 32
+max_name = MAX_NAME
 
 abbrev pub least_of_name : ℕ
 least_of_name = 33
@@ -31,15 +32,15 @@ greatest_of_name = 126
 
 -- the most processors of a cluster; `max_processors_v1` is that of a script of version 1
 abbrev pub max_processors : ℕ
-max_processors = 16
+max_processors = MAX_PROCESSORS
 
 abbrev pub max_processors_v1 : ℕ
-max_processors_v1 = 8
+max_processors_v1 = MAX_PROCESSORS_V1
 
 -- the greatest count of a record or of a sink, and the greatest absolute value of an entry of a change
 -- or of a view
 abbrev pub max_count : ℕ
-max_count = 1099511627776
+max_count = MAX_COUNT
 
 -- the greatest epoch and loop counter
 abbrev pub max_counter : ℕ
@@ -47,48 +48,52 @@ max_counter = 4294967295
 
 -- the most values in one feed
 abbrev pub max_values : ℕ
-max_values = 1024
+max_values = MAX_VALUES
 
 -- the most changes in one queue
 abbrev pub max_queue : ℕ
-max_queue = 65536
+max_queue = MAX_QUEUE
 
 -- the most kept steps
 abbrev pub max_kept : ℕ
-max_kept = 1000000
+max_kept = MAX_KEPT
 
 -- the most breakpoints that are set at once
 abbrev pub max_breaks : ℕ
-max_breaks = 32
+max_breaks = MAX_BREAKS
 
 -- the most commands that a session logs
 abbrev pub max_log : ℕ
-max_log = 1000000
+max_log = MAX_LOG
 
 -- the most clients over a session's life
 abbrev pub max_clients : ℕ
-max_clients = 64
+max_clients = MAX_CLIENTS
 
 -- the most workers of a search; a search that asks for more starts this many
 abbrev pub max_workers : ℕ
-max_workers = 64
+max_workers = MAX_WORKERS
 
 -- the number of positions in one piece of a search
 abbrev pub piece_length : ℕ
-piece_length = 16
+piece_length = PIECE_LENGTH
+
+-- the most states that are looked at to reach a condition
+abbrev pub max_reached : ℕ
+max_reached = MAX_REACHED
 
 -- the greatest length of a line in bytes, without its newline
 abbrev pub max_line : ℕ
-max_line = 65536
+max_line = MAX_LINE
 
 -- the greatest length of a script in bytes
 abbrev pub max_input : ℕ
-max_input = 268435456
+max_input = MAX_INPUT
 
 -- the most elements of a list in one reply: changes of a view, candidates, or turns of a condition
 abbrev pub max_told : ℕ
-max_told = 1000
+max_told = MAX_TOLD
 
 -- the most literals in one condition
 abbrev pub max_literals : ℕ
-max_literals = 8
+max_literals = MAX_LITERALS

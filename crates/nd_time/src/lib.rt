@@ -7,15 +7,14 @@ ghost use Rattle.nd_time.specs.Limits.{max_depth, max_counter};
 ghost use Rattle.nd_time.specs.Listing.{time_cmp};
 
 mod faults;
+pub mod limits;
 
 use arrayvec::ArrayVec;
 pub use faults::Code;
+use limits::MAX_DEPTH;
 use std::cmp::Ordering;
 use std::marker::Model;
 use thiserror::Error;
-
-/// The greatest number of nested loops.
-pub const MAX_DEPTH: usize = 6;
 
 /// A loop counter has its greatest value, 4294967295, and cannot grow.
 #[derive(Clone, Copy, Debug, PartialEq, Eq, Drop, Error)]

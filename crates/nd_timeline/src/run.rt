@@ -8,11 +8,11 @@ ghost use Rattle.nd_timeline.specs.Timeline.{cluster_of};
 ghost use Rattle.nd_timeline.specs.Moves.{ListsMissing, ran_reply, RunMoves};
 
 use crate::seeds::mix;
-use crate::timeline::MAX_KEPT;
 use crate::{Fault, Ran, Stop, Timeline};
 use nd_breaks::Breaks;
 use nd_cluster::Record;
 use nd_protocol::{NoMemory, Processors, Refusal};
+use nd_time::limits::MAX_KEPT;
 use std::alloc::Allocator;
 
 impl<A: Allocator + Copy> Timeline<A> {

@@ -16,11 +16,9 @@ use crate::{Fault, Walk};
 use nd_cluster::{Cluster, Record};
 use nd_paths::Pointstamp;
 use nd_protocol::{NoMemory, Refusal, Step, steps_keep_protocol};
+use nd_time::limits::MAX_KEPT;
 use std::alloc::{AllocError, Allocator, Global};
 use std::marker::Model;
-
-/// The maximum number of kept steps.
-pub(crate) const MAX_KEPT: usize = 1_000_000;
 
 /// A base, the steps that are kept, and the cluster that the steps up to the cursor lead to.
 pub struct Timeline<A: Allocator + Copy = Global> {

@@ -59,10 +59,6 @@ module _ (g : Dataflow) (m : DeltaValue) (R : Pointstamp → Option ℕ → Type
     next : IsNext ks i e.0
     next = next_key es ks h.keys h.listed i e lt is
 
-    -- what is stored for the key before it gets its count
-    pub waiting : R e.0 (Some e.1)
-    waiting = subst (R e.0) (entry_found es i e h.listed lt is) (h.rest e.0 next.fresh)
-
     -- the stored number is the count
     pub moved_skip : IsKeptAt g m e.0 (Some e.1) → IsMovedUpTo g m R ks (i + 1) es
     moved_skip right =

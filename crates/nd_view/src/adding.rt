@@ -14,8 +14,9 @@ ghost use Rattle.nd_view.specs.Room.{IsWithinRoom, AreWithin, IsAdded};
 use crate::View;
 use crate::entry_tests::takes_room;
 use crate::keeping::{count_before, shift};
-use nd_delta::{Delta, DeltaFault, LIMIT};
+use nd_delta::{Delta, DeltaFault};
 use nd_paths::{Paths, Pointstamp};
+use nd_time::limits::MAX_COUNT;
 use std::alloc::{AllocError, Allocator};
 
 // Returns `old` with `by` added or, if `minus`, subtracted.
@@ -32,7 +33,7 @@ fn counted(old: i64, by: i64, minus: bool) -> i64
 fn is_within(n: i64) -> bool
     ensures { IsTrue result ↔ (unsigned_abs n ≤ max_count) }
 {
-    n <= LIMIT && n >= -LIMIT
+    n.unsigned_abs() <= MAX_COUNT
 }
 
 // Returns the first entry and the others, if there are any.

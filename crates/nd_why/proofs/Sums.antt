@@ -111,7 +111,7 @@ news-from p unsent cs b =
     omega (arith, ints, first, own, rest, both)
 
 -- the updates not received are what is pending
-news_pending : (s : ClusterState) (q : ℕ) (b : Pointstamp) → news (unheard_at s.processors s.queues q b) ≡ total (length s.processors) (λ p. at (pending s p q 0) b)
+news_pending : (s : ClusterState) (q : ℕ) (b : Pointstamp) → news (unheard_at s q b) ≡ total (length s.processors) (λ p. at (pending s p q 0) b)
 news_pending s q b = news-in_turn (λ p. unheard_from p (processor s p).unsent (queue s p q) b) (λ p. at (pending s p q 0) b) (λ p. news-from p (processor s p).unsent (queue s p q) b) (length s.processors)
 
 -- the view plus the updates not received is what is held

@@ -9,30 +9,11 @@ use Rattle.nd_delta.specs.Delta.{DeltaValue, none, at, entries}
 use Rattle.nd_delta.specs.Least.{place_of}
 use Rattle.nd_view.specs.Kept.{Kept, IsFor}
 use Rattle.nd_view.specs.View.{IsPositiveBefore, IsOnFrontier, IsPartWhere, IsPassedBefore}
-use Rattle.nd_view.specs.Views.{AreFor, maps-get}
-use Rattle.nd_processor.specs.State.{ProcessorState}
 use Rattle.nd_protocol.specs.State.{ClusterState, view}
-use Rattle.nd_protocol.specs.Fitting.{IsState}
 use Rattle.nd_why.specs.Account.{Account}
-use Rattle.nd_why.specs.Why.{state_of, account, account_of, IsReason, IsWhyBefore, HasReasonBefore}
+use Rattle.nd_why.specs.Why.{account, IsReason, IsWhyBefore, HasReasonBefore}
 use Rattle.nd_why.proofs.Order.{IsOrder, index_some, frontier_before, fits_before, near_could, near_before}
 use Rattle.nd_map.specs.Cases.{not_zero}
-
--- the view of q, as it is stored
-pub seen : (g : Dataflow) (ps : List ProcessorState) (vs : List Kept) (m : List (List (List DeltaValue))) → IsState (state_of g ps vs m) → AreFor g vs → (q : ℕ) → q < length ps → (v : Kept) → v ≡ get_or vs q v
-    → (v.map ≡ view (state_of g ps vs m) q) × IsFor g v
-seen g ps vs m state kept q lt v is =
-    let short : q < length vs = omega (arith, lt, state.fits.each_view, length-map vs (λ (k : Kept). k.map)) in
-    (sym (maps-get vs q v none short is), subst (IsFor g) (sym is) (kept q v short))
-
--- the accounts that are computed from the parts are those of the reasons
-pub whole_of : (s : ClusterState) (strictly : Bool) (q : ℕ) (t : Pointstamp) (known : DeltaValue) → known ≡ view s q → (points : DeltaValue) → IsPartWhere (IsReason s.graph known strictly t) known points → (accounts : List Account)
-    → accounts ≡ map (λ e. account_of s.processors s.queues q known e.0) (entries points) → IsWhyBefore s strictly q t accounts
-whole_of s strictly q t known is points part accounts told = (
-  points,
-  subst (λ m. IsPartWhere (IsReason s.graph m strictly t) m points) is part,
-  told ∙ ap (λ m. map (λ (e : Pointstamp × ℤ). account_of s.processors s.queues q m e.0) (entries points)) is,
-)
 
 module _ (s : ClusterState) (strictly : Bool) (q : ℕ) (t : Pointstamp) (accounts : List Account) (why : IsWhyBefore s strictly q t accounts) where
   -- a property of the account of each reason holds of all accounts

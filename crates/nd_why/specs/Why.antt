@@ -7,21 +7,15 @@ use Rattle.nd_map.specs.Counts.{entries as numbers}
 use Rattle.nd_paths.specs.Order.{CouldResultIn}
 use Rattle.nd_paths.specs.declared.point.Pointstamp.{Pointstamp}
 use Rattle.nd_delta.specs.Delta.{DeltaValue, none, at, is_point, entries}
-use Rattle.nd_view.specs.Kept.{Kept}
 use Rattle.nd_view.specs.View.{IsBefore, IsOnFrontier, IsPartWhere}
 use Rattle.nd_processor.specs.State.{ProcessorState, idle, token_point}
 use Rattle.nd_processor.specs.declared.key.ValueAt.{ValueAt}
-use Rattle.nd_mesh.specs.Mesh.{queue}
-use Rattle.nd_protocol.specs.State.{ClusterState, view, truth}
+use Rattle.nd_protocol.specs.State.{ClusterState, processor, view, queue, truth}
 use Rattle.nd_why.specs.Account.{Account}
 use Rattle.nd_why.specs.declared.answer.Held.{Held}
 use Rattle.nd_why.specs.declared.answer.Held.TheVariants.{Records, Request, Token}
 use Rattle.nd_why.specs.declared.answer.Unheard.{Unheard}
 use Rattle.nd_why.specs.declared.answer.Unheard.TheVariants.{Unsent, Queued}
-
--- the state of a cluster, from its parts
-abbrev pub state_of : Dataflow → List ProcessorState → List Kept → List (List (List DeltaValue)) → ClusterState
-state_of g processors views queues = record { graph = g; processors = processors; views = map (λ v. v.map) views; queues = queues }
 
 -- f 0, then f 1, ..., then f (n - 1)
 abbrev pub in_turn : {X : Type 0} → ℕ → (ℕ → List X) → List X
@@ -75,8 +69,8 @@ unfoldable pub unheard_from : ℕ → DeltaValue → List DeltaValue → Pointst
 unheard_from p unsent changes b = unless_zero (at unsent b) (Unsent p (at unsent b)) ++ queued_at p changes b
 
 -- all updates of b that q has not received, by sender
-abbrev pub unheard_at : List ProcessorState → List (List (List DeltaValue)) → ℕ → Pointstamp → List Unheard
-unheard_at processors queues q b = in_turn (length processors) (λ p. unheard_from p (slice_index_or processors p idle).unsent (queue queues p q) b)
+abbrev pub unheard_at : ClusterState → ℕ → Pointstamp → List Unheard
+unheard_at s q b = in_turn (length s.processors) (λ p. unheard_from p (processor s p).unsent (queue s p q) b)
 
 -- ---- what is outstanding
 
@@ -106,13 +100,9 @@ IsFinishedBefore s strictly t =
 
 -- ---- the reasons
 
--- the account of the reason b of processor q, whose view is `known`
-abbrev pub account_of : List ProcessorState → List (List (List DeltaValue)) → ℕ → DeltaValue → Pointstamp → Account
-account_of processors queues q known b = record { point = b; held = held_at processors b; unheard = unheard_at processors queues q b; view = at known b }
-
--- the same, in the cluster s
+-- the account of the reason b of processor q
 abbrev pub account : ClusterState → ℕ → Pointstamp → Account
-account s q b = account_of s.processors s.queues q (view s q) b
+account s q b = record { point = b; held = held_at s.processors b; unheard = unheard_at s q b; view = at (view s q) b }
 
 -- b is on the frontier of the view v, and before t: strictly before it, or at or before it
 pub record IsReason (g : Dataflow) (v : DeltaValue) (strictly : Bool) (t b : Pointstamp) : Type 0 where

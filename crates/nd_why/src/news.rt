@@ -1,12 +1,13 @@
 //! The updates of a pointstamp that a processor has not received.
 ghost use Rattle.std.specs.Prelude.{◌≡◌, ◌<◌, ◌++◌, IfOk, OnOk, length};
 ghost use Rattle.nd_mesh.specs.Mesh.{queue};
+ghost use Rattle.nd_protocol.specs.Fitting.{IsState};
 ghost use Rattle.nd_why.specs.Why.{unless_zero, queued_at, unheard_at as all_unheard};
 
 use crate::Unheard;
 use nd_mesh::Mesh;
 use nd_paths::Pointstamp;
-use nd_processor::Processor;
+use nd_protocol::Parts;
 use std::alloc::{AllocError, Allocator};
 
 // Appends an update to the list if its number is not 0.
@@ -46,20 +47,19 @@ fn push_queued<A: Allocator + Copy>(
 /// Returns all updates of a pointstamp that processor `q` has not received, sender by sender.
 pub(crate) fn unheard_at<A: Allocator + Copy>(
     alloc: A,
-    processors: &[Processor<A>],
-    mesh: &Mesh<A>,
+    parts: &Parts<A>,
     q: usize,
     point: &Pointstamp,
 ) -> Result<Vec<Unheard, A>, AllocError>
-    requires mesh { length mesh.now ≡ length processors.now }
-    requires q { q < length mesh.now }
-    ensures { IfOk result (λ v. v.items ≡ all_unheard processors.now mesh.now q point.now) }
+    requires state { IsState parts.now }
+    requires q { q < length parts.now.processors }
+    ensures { IfOk result (λ v. v.items ≡ all_unheard parts.now q point.now) }
 {
     let mut unheard = Vec::new(alloc);
-    for p in 0..processors.len() {
-        let n = processors[p].unsent().get(point);
+    for p in 0..parts.n() {
+        let n = parts.processor(p).unsent().get(point);
         push_unless_zero(&mut unheard, n, Unheard::Unsent { p, n })?;
-        push_queued(&mut unheard, p, q, mesh, point)?;
+        push_queued(&mut unheard, p, q, parts.mesh(), point)?;
     }
     Ok(unheard)
 }

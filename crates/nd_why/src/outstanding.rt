@@ -1,12 +1,11 @@
 //! Whether anything outstanding is at or before a pointstamp, or strictly before it.
-ghost use Rattle.std.specs.Prelude.{◌↔◌, IsTrue, List};
-ghost use Rattle.nd_delta.specs.Delta.{DeltaValue};
-ghost use Rattle.nd_view.specs.Kept.{Kept};
+ghost use Rattle.std.specs.Prelude.{◌↔◌, IsTrue};
 ghost use Rattle.nd_processor.specs.State.{held};
-ghost use Rattle.nd_why.specs.Why.{state_of, HasBefore, RecordBefore, RequestBefore, TokenBefore, IsFinishedBefore};
+ghost use Rattle.nd_why.specs.Why.{HasBefore, RecordBefore, RequestBefore, TokenBefore, IsFinishedBefore};
 
 use nd_paths::{Paths, Pointstamp};
 use nd_processor::{Processor, ValueAt, token_point};
+use nd_protocol::Parts;
 use nd_view::is_before;
 use std::alloc::Allocator;
 
@@ -67,19 +66,13 @@ fn holds_before<A: Allocator + Copy>(
     record | request | token
 }
 
-/// Returns whether a cluster with these processors has nothing outstanding at or before `point` or, if
-/// `strictly`, strictly before it.
-pub fn finished<A: Allocator + Copy>(
-    paths: &Paths<A>,
-    processors: &[Processor<A>],
-    point: &Pointstamp,
-    strictly: bool,
-) -> bool
-    ensures { (views : List Kept) (queues : List (List (List DeltaValue))) → IsTrue result
-        ↔ IsFinishedBefore (state_of paths.now processors.now views queues) strictly point.now }
+/// Returns whether a cluster has nothing outstanding at or before `point` or, if `strictly`, strictly before
+/// it.
+pub fn finished<A: Allocator + Copy>(parts: &Parts<A>, point: &Pointstamp, strictly: bool) -> bool
+    ensures { IsTrue result ↔ IsFinishedBefore parts.now strictly point.now }
 {
-    for processor in processors {
-        if holds_before(paths, processor, point, strictly) {
+    for processor in parts.processors() {
+        if holds_before(parts.paths(), processor, point, strictly) {
             return false;
         }
     }

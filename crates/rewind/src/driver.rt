@@ -5,19 +5,17 @@ ghost use Rattle.rewind_lines.specs.Faults.{is_read_fault, is_write_fault};
 ghost use Rattle.rewind.specs.Script.{Ends, Takes};
 
 use crate::run::Run;
+use nd_time::limits::{MAX_INPUT, MAX_LINE};
 use rewind_lines::{DebugFault, Options, Sink, Source, front, read_into};
 use std::alloc::Global;
 use std::thread::Threads;
 
-/// The most bytes of a script.
-pub const INPUT_LIMIT: usize = 268_435_456;
-
 /// The most bytes that are read at a time: the longest line that is parsed as JSON, and its newline.
-const CHUNK: usize = 65_537;
+const CHUNK: usize = MAX_LINE + 1;
 
 /// Runs the script of one client, and returns the number of lines that were replied to.
 ///
-/// At most `INPUT_LIMIT` bytes are processed; one more ends the run with `TooLong`, so even an endless
+/// At most `MAX_INPUT` bytes are processed; one more ends the run with `TooLong`, so even an endless
 /// source ends it. A refused graph ends the run with `Graph`. The replies to complete lines are written
 /// before more is read. The call never returns `Script` or `Close`, which belong to scripts of several
 /// clients. Only searches start threads.
@@ -47,7 +45,7 @@ pub fn debug<R: Threads + Sync, S: Source, T: Sink>(
     ensures write { T.failed sink.new ≡ is_write_fault result }
     ensures one_client { IfErr result (λ e. (e ≢ DebugFault.Script) × (e ≢ DebugFault.Close)) }
 {
-    debug_within(rt, alloc, source, sink, options, INPUT_LIMIT)
+    debug_within(rt, alloc, source, sink, options, MAX_INPUT)
 }
 
 /// Does the same with a script of at most `limit` bytes.

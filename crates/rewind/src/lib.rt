@@ -6,7 +6,7 @@ mod driver;
 mod options;
 mod run;
 
-pub use driver::{INPUT_LIMIT, debug, debug_within};
+pub use driver::{debug, debug_within};
 pub use nd_history::{Gate, OpenGate};
 pub use options::{WordsFault, options_of};
 pub use rewind_clients::{debug_clients, debug_clients_within};

@@ -1,5 +1,5 @@
 -- How replies are told as text.
-use Rattle.std.proofs.Common.{◌≡◌, ℕ, List, [], ◌∷◌, Option, Some, None, Result, Ok, Err, IfOk, Vec, refl, sym, subst}
+use Rattle.std.proofs.Common.{◌≡◌, ℕ, List, [], ◌∷◌, Option, Some, None, Result, Ok, Err, IfOk, OnErr, Vec, refl, sym, subst, ap, inl, inr}
 use Rattle.std.specs.Option.{option_to_list}
 use Rattle.std.specs.declared.alloc.AllocError.{AllocError}
 use Rattle.std.specs.declared.alloc.Global.{Global}
@@ -17,7 +17,7 @@ use Rattle.rewind_forms.specs.declared.fault.LineFault.TheVariants as line
 use Rattle.rewind_forms.specs.declared.queries.Query.{Query}
 use Rattle.rewind_forms.specs.declared.version.Version.{Version}
 use Rattle.rewind_answers.specs.Answers.{Logged, Phase, running, Answers, after_fault, AskedReply, CommandReply, LineReplies, QueryReply}
-use Rattle.rewind_answers.specs.Stages.{Tells, phase_of, phase_after}
+use Rattle.rewind_answers.specs.Stages.{IsOrFollows, Tells, phase_of, phase_after}
 use Rattle.rewind_answers.specs.declared.stage.Answer.{Answer}
 use Rattle.rewind_answers.specs.declared.stage.Stage.{Stage}
 use Rattle.rewind_answers.specs.declared.stage.Stage.TheVariants.{Unopened, Unstarted, Running}
@@ -32,6 +32,30 @@ tells P d (Err e) text may = text
 pub tells_so : (P Q : Data → Type 0) (t : Result (Vec ℕ Global) AllocError) → ((d : Data) → P d → Q d) → IfOk t (λ b. TellsOne P b.items) → IfOk t (λ b. TellsOne Q b.items)
 tells_so P Q (Ok b) so h = (h.0, so h.0 h.1, h.2)
 tells_so P Q (Err e) so h = h
+
+-- ---- where memory runs out
+
+-- what holds anyway
+pub unmade : {X P : Type 0} (t : Result X AllocError) → P → OnErr t P
+unmade (Ok b) h = tt
+unmade (Err e) h = h
+
+-- a reply that is told, or lost
+pub told_or_lost : (May : Data → Logged → Type 0) (m new : Logged) (d : Data) (t : Result (Vec ℕ Global) AllocError) → IfOk t (λ b. b.items ≡ compact_text d) → May d new
+    → record { reply : IfOk t (λ b. TellsOne (λ v. May v new) b.items); memory : OnErr t (IsOrFollows May m new) }
+told_or_lost May m new d t text may = record { reply = tells (λ v. May v new) d t text may; memory = unmade t (inr (d, may)) }
+
+pub lost_do : (m new : Logged) (asked : Asked) (command : Command Global) (t : Result (Vec ℕ Global) AllocError) → asked ≡ Do command
+    → OnErr t (IsOrFollows (CommandReply m command) m new) → OnErr t (IsOrFollows (AskedReply m asked) m new)
+lost_do m new asked command (Ok b) is h = tt
+lost_do m new asked command (Err e) is (inl same) = inl same
+lost_do m new asked command (Err e) is (inr h) = inr (h.0, subst (λ (a : Asked). AskedReply m a h.0 new) (sym is) h.1)
+
+pub lost_asked : (script : Version) (m : Logged) (n : ℕ) (d : Data) (asked : Asked) (t : Result (Vec ℕ Global) AllocError) (new : Logged) → asked_of script (cluster_of m.machine.timeline).graph d ≡ Ok asked
+    → OnErr t (IsOrFollows (AskedReply m asked) m new) → OnErr t (IsOrFollows (LineReplies script m n d) (running script m) (running script new))
+lost_asked script m n d asked (Ok b) new is h = tt
+lost_asked script m n d asked (Err e) new is (inl same) = inl (ap (running script) same)
+lost_asked script m n d asked (Err e) new is (inr h) = inr (h.0 ∷ [], asked_replies script m n d asked h.0 new is h.1)
 
 -- ---- queries
 

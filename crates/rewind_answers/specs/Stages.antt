@@ -1,5 +1,5 @@
 -- The phases that a run's values stand for.
-use Rattle.std.specs.Prelude.{Bool, true, false, ℕ, List, [], ◌∷◌, length, Option, Some, None, Result, Vec}
+use Rattle.std.specs.Prelude.{◌≡◌, ◌⊎◌, Bool, true, false, ℕ, List, [], ◌∷◌, length, Option, Some, None, Result, Vec}
 use Rattle.serde_json.specs.Data.{Data}
 use Rattle.std.specs.declared.alloc.Global.{Global}
 use Rattle.nd_graph.specs.Graph.{Dataflow}
@@ -47,6 +47,10 @@ Starts v processors graph first = StartReplies v processors graph (first_data fi
 abbrev pub phase_after : Bool → Stage → Phase
 phase_after true stage = refused
 phase_after false stage = phase_of stage
+
+-- what is left where memory ran out: s itself, or what follows it by an answer whose text is lost
+abbrev pub IsOrFollows : {X S : Type 0} → (X → S → Type 0) → S → S → Type 0
+IsOrFollows {X} May s t = (t ≡ s) ⊎ ((x : X) × May x t)
 
 -- the text of an answer, if it has one, is that of replies which may be given: none or one
 abbrev pub Tells : (List Data → Type 0) → Option (Vec ℕ Global) → Type 0

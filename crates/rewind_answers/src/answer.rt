@@ -1,11 +1,11 @@
 //! The replies to the graph's line and to a later line.
-ghost use Rattle.std.specs.Prelude.{◌≡◌, ◌∷◌, [], Ok, IfOk, ok_or};
+ghost use Rattle.std.specs.Prelude.{◌≡◌, ◌∷◌, [], Ok, IfOk, OnErr, ok_or};
 ghost use Rattle.nd_graph.specs.Fault.{IsUnlessMemory};
 ghost use Rattle.nd_graph.specs.declared.fault.GraphFault.TheVariants.{Shape};
 ghost use Rattle.serde_json.specs.View.{view};
 ghost use Rattle.rewind_answers.specs.Answers.{draft_in, checked_in, graph_of as graph_in, most_processors as most_in, LineReplies, AskedReply, CommandReply};
 ghost use Rattle.rewind_forms.specs.Replies.{TellsOne};
-ghost use Rattle.rewind_answers.specs.Stages.{Starts, logged, phase_in};
+ghost use Rattle.rewind_answers.specs.Stages.{IsOrFollows, Starts, logged, phase_in};
 ghost use Rattle.nd_protocol.specs.Invariant.{KeepsProtocol};
 ghost use Rattle.nd_timeline.specs.Timeline.{cluster_of};
 
@@ -14,6 +14,7 @@ use crate::stage::Script;
 use nd_cluster::{Cluster, StartFault};
 use nd_graph::{Graph, GraphDraft, GraphFault};
 use nd_session::State;
+use nd_time::limits::{MAX_PROCESSORS, MAX_PROCESSORS_V1};
 use nd_timeline::{Command, Timeline};
 use rewind_forms::{
     Asked, ErrorReply, GraphReply, NoNames, Version, asked_of, line_fault, text_of,
@@ -68,9 +69,9 @@ fn most_processors(version: Version) -> u8
     ensures { result ≡ most_in version }
 {
     if version.includes(Version::Second) {
-        16
+        MAX_PROCESSORS as u8
     } else {
-        8
+        MAX_PROCESSORS_V1 as u8
     }
 }
 
@@ -153,6 +154,8 @@ pub fn cluster(state: &State) -> &Cluster
 fn answer_do(alloc: Global, state: &mut State, command: Command) -> Result<Vec<u8>, AllocError>
     ensures reply { IfOk result (λ t. TellsOne
         (λ v. CommandReply (logged state.old) command v (logged state.new)) t.items) }
+    ensures memory { OnErr result (IsOrFollows (CommandReply (logged state.old) command)
+        (logged state.old) (logged state.new)) }
 {
     match state.answer(ONLY_CLIENT, command) {
         Ok(reply) => text_of(alloc, cluster(state).graph(), &reply),
@@ -169,6 +172,8 @@ fn answer_asked<R: Threads + Sync>(
 ) -> Result<Vec<u8>, AllocError>
     ensures reply { IfOk result (λ t. TellsOne
         (λ v. AskedReply (logged state.old) asked v (logged state.new)) t.items) }
+    ensures memory { OnErr result (IsOrFollows (AskedReply (logged state.old) asked)
+        (logged state.old) (logged state.new)) }
 {
     match asked {
         Asked::Do(command) => answer_do(alloc, state, command),
@@ -176,7 +181,8 @@ fn answer_asked<R: Threads + Sync>(
     }
 }
 
-/// Answers a later line of a script, and returns the text of the reply.
+/// Answers a later line of a script, and returns the text of the reply. If memory runs out, the command was made and logged, and
+/// only its reply is lost, or nothing has changed.
 pub fn answer_later<R: Threads + Sync>(
     rt: &R,
     alloc: Global,
@@ -187,6 +193,9 @@ pub fn answer_later<R: Threads + Sync>(
     ensures replies { IfOk result (λ t. TellsOne
         (λ v. LineReplies script.old.version (logged script.old.state)
         line (view value.now) (v ∷ []) (phase_in script.new)) t.items) }
+    ensures memory { OnErr result (IsOrFollows
+        (LineReplies script.old.version (logged script.old.state) line (view value.now))
+        (phase_in script.old) (phase_in script.new)) }
 {
     let graph = cluster(&script.state).graph();
     let asked = match asked_of(alloc, script.version, graph, value) {

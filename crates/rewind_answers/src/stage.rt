@@ -1,5 +1,5 @@
 //! The stages of a run, and the reply to each line in each stage.
-ghost use Rattle.std.specs.Prelude.{◌≡◌, Some, false, IfOk};
+ghost use Rattle.std.specs.Prelude.{◌≡◌, Some, false, IfOk, OnErr};
 ghost use Rattle.std.specs.Option.{option_to_list};
 ghost use Rattle.serde_json.specs.View.{view};
 ghost use Rattle.rewind_lines.specs.Lines.{json};
@@ -7,7 +7,7 @@ ghost use Rattle.rewind_lines.specs.Readings.{reading_view};
 ghost use Rattle.rewind_forms.specs.Replies.{line_fault as line_fault_data};
 ghost use Rattle.rewind_answers.specs.Answers.{graph_of, StartReplies, OpeningReplies, Answers, after_fault};
 ghost use Rattle.rewind_forms.specs.Versions.{version_of as version_in};
-ghost use Rattle.rewind_answers.specs.Stages.{Tells, phase_of, phase_after};
+ghost use Rattle.rewind_answers.specs.Stages.{IsOrFollows, Tells, phase_of, phase_after};
 
 use crate::answer::{First, Started, answer_first, answer_later};
 use nd_session::State;
@@ -78,6 +78,7 @@ fn answer_graph(
     ensures answers { IfOk result (λ a. Tells
         (λ replies. StartReplies version processors (graph_of version (view value.now))
         replies (phase_after a.is_last stage.new)) a.reply) }
+    ensures memory { OnErr result (stage.new ≡ stage.old) }
 {
     match answer_first(alloc, version, processors, value)? {
         First::Refused(error) => Ok(Answer {
@@ -102,6 +103,7 @@ fn answer_opening(
     ensures answers { IfOk result (λ a. Tells
         (λ replies. OpeningReplies (version_in (view value.now)) processors (view value.now)
         replies (phase_after a.is_last stage.new)) a.reply) }
+    ensures memory { OnErr result (stage.new ≡ stage.old) }
 {
     let Some(version) = version_of(value) else {
         return answer_graph(alloc, stage, Version::First, processors, value);
@@ -122,6 +124,9 @@ fn answer_value<R: Threads + Sync>(
     ensures answers { IfOk result (λ a. Tells
         (λ replies. Answers (phase_of stage.old) line (json (view value.now))
         replies (phase_after a.is_last stage.new)) a.reply) }
+    ensures memory { OnErr result (IsOrFollows
+        (Answers (phase_of stage.old) line (json (view value.now)))
+        (phase_of stage.old) (phase_of stage.new)) }
 {
     match stage {
         Stage::Unopened(processors) => {
@@ -142,7 +147,8 @@ fn answer_value<R: Threads + Sync>(
 /// Answers the line of this number; `Err` only if memory runs out.
 ///
 /// A blank line has no reply. A faulty line changes nothing, and ends the run if it is the first or
-/// the graph's; so does a graph that is refused.
+/// the graph's; so does a graph that is refused. If memory runs out, the line was answered, and only its reply is lost, or the
+/// stage is as it was.
 pub fn answer_line<R: Threads + Sync>(
     rt: &R,
     alloc: Global,
@@ -153,6 +159,9 @@ pub fn answer_line<R: Threads + Sync>(
     ensures answers { IfOk result (λ a. Tells
         (λ replies. Answers (phase_of stage.old) line (reading_view reading.now)
         replies (phase_after a.is_last stage.new)) a.reply) }
+    ensures memory { OnErr result (IsOrFollows
+        (Answers (phase_of stage.old) line (reading_view reading.now))
+        (phase_of stage.old) (phase_of stage.new)) }
 {
     match reading {
         Reading::Blank => Ok(Answer {

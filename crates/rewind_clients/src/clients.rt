@@ -11,13 +11,11 @@ use crate::intake::{Intake, Script};
 use crate::reader::read_script;
 use crate::tell::{tell_log, tell_one, tell_opening, tell_version};
 use nd_history::Gate;
+use nd_time::limits::MAX_INPUT;
 use rewind_lines::{DebugFault, Options, Sink, Source};
 use std::alloc::Global;
 use std::sync::Wait;
 use std::thread::Threads;
-
-/// The most bytes of a script.
-const INPUT_LIMIT: usize = 268_435_456;
 
 // Writes the replies to a script that was read completely: to the version line, if there was one,
 // to the graph's line, and then to the clients' commands.
@@ -77,7 +75,7 @@ fn answer<R: Threads + Wait + Sync, T: Sink, G: Gate>(
 
 /// Runs the script of several clients, each client's commands on a thread of its own.
 ///
-/// The complete script is read first, at most `INPUT_LIMIT` bytes. If reading fails, nothing is
+/// The complete script is read first, at most `MAX_INPUT` bytes. If reading fails, nothing is
 /// written. If a line is faulty, only the reply to the first faulty line is written, and no command
 /// is executed. Otherwise the reply to the version line, if there is one, and the reply to the
 /// graph's line are written. After all clients have stopped, the entries of the log follow, and a
@@ -109,7 +107,7 @@ pub fn debug_clients<R: Threads + Wait + Sync, S: Source, T: Sink, G: Gate>(
     ensures read { S.failed source.new ≡ is_read_fault result }
     ensures write { T.failed sink.new ≡ is_write_fault result }
 {
-    debug_clients_within(rt, alloc, source, sink, options, gate, INPUT_LIMIT)
+    debug_clients_within(rt, alloc, source, sink, options, gate, MAX_INPUT)
 }
 
 /// Does the same with a script of at most `limit` bytes.

@@ -10,15 +10,13 @@ use crate::gated::Gated;
 use crate::same::same_graph;
 use nd_history::Gate;
 use nd_session::{Client, Log, Session, SessionFault, State};
+use nd_time::limits::MAX_LOG;
 use nd_timeline::Command;
 use rewind_lines::DebugFault;
 use std::alloc::{AllocError, Global};
 use std::sync::Wait;
 use std::thread;
 use std::thread::Threads;
-
-/// The most entries of a log.
-const LOG_LIMIT: usize = 1_000_000;
 
 /// A client that has entered, and its commands.
 #[derive(Drop)]
@@ -208,7 +206,7 @@ pub fn drive_session<R: Threads + Wait + Sync, G: Gate>(
     let (clients, faults) = split(alloc, done)?;
     match session.close(clients) {
         Ok(log) => {
-            if log.entries.len() < LOG_LIMIT && any_full(faults.as_slice()) {
+            if log.entries.len() < MAX_LOG && any_full(faults.as_slice()) {
                 return Err(DebugFault::Close);
             }
             let left = log.timeline.base();

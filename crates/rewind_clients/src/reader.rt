@@ -7,11 +7,12 @@ ghost use Rattle.rewind_clients.specs.Intakes.{intake_view};
 ghost use Rattle.rewind_clients.specs.Readers.{IsOfReading, StandsAt};
 
 use crate::intake::Intake;
+use nd_time::limits::MAX_LINE;
 use rewind_lines::{DebugFault, LineReader, Options, Source, front, read_into};
 use std::alloc::{AllocError, Global};
 
 /// The most bytes that are read at a time.
-const CHUNK: usize = 65_537;
+const CHUNK: usize = MAX_LINE + 1;
 
 /// What was read of a script, and the result.
 #[derive(Drop)]

@@ -12,11 +12,9 @@ use crate::{LineFault, Version};
 use nd_breaks::{Condition, Literal, Quantifier};
 use nd_graph::Graph;
 use nd_json::list;
+use nd_time::limits::MAX_LITERALS;
 use serde_json::Value;
 use std::alloc::Global;
-
-/// The most literals of a condition.
-const MAX_LITERALS: usize = 8;
 
 // Returns the literal that the value describes.
 #[tactic(auto, unfolding(crate::specs::Conditions::literal_of))]

@@ -7,11 +7,9 @@ ghost use Rattle.rewind_forms.specs.Forms.{numbers_of as numbers_from, numbers_a
 
 use nd_json::{integer, list_at, small};
 use nd_protocol::{Processors, Values};
+use nd_time::limits::MAX_PROCESSORS;
 use serde_json::Value;
 use std::alloc::{AllocError, Global};
-
-/// The most processors of a cluster.
-const MAX_PROCESSORS: usize = 16;
 
 // Returns the items as numbers, if each is a number from 0 to 2^32 - 1.
 fn smalls(alloc: Global, items: &[Value]) -> Result<Option<Vec<u32>>, AllocError>

@@ -8,11 +8,9 @@ ghost use Rattle.rewind_lines.specs.Readings.{reading_view};
 
 use crate::reading::{Reading, parse};
 use crate::source::front;
+use nd_time::limits::MAX_LINE;
 use std::alloc::{AllocError, Allocator, Global};
 use std::marker::Model;
-
-/// The maximum number of bytes of a line, without its newline.
-const LINE_LIMIT: usize = 65_536;
 
 /// The line that is being read, of any length. It stores the first bytes of the line, whether the line
 /// is longer, and whether it is blank so far.
@@ -52,7 +50,7 @@ impl<A: Allocator> Line<A> {
         // Beyond the limit of a line it does not allocate.
         ensures long { max_line ≤ length self.old.bytes → IsOk result }
     {
-        let room = LINE_LIMIT.saturating_sub(self.front.len());
+        let room = MAX_LINE.saturating_sub(self.front.len());
         let fits = room.min(bytes.len());
         self.front.extend_from_slice(front(bytes, fits))?;
         self.is_longer = now_longer(self.is_longer, fits, bytes.len());

@@ -10,7 +10,7 @@ use nd_examples::{
     start, step_of,
 };
 use nd_history::{Snapshot, changes, effect, turns};
-use nd_testing::{MANY, Refusing, in_turn};
+use nd_testing::{Refusing, in_turn};
 use nd_timeline::Timeline;
 use std::alloc::{Allocator, Global};
 
@@ -134,11 +134,17 @@ fn walk<A: Allocator + Copy>(alloc: A, timeline: &Timeline<A>) -> Option<()> {
     timeline.walk_to(&mut walk, 0).ok()
 }
 
-/// Lists the changes of a view, and the effect of each step.
+/// Lists the changes of a view and the turns of a condition, and the effect of each step.
 fn list<A: Allocator + Copy>(alloc: A, timeline: &Timeline<A>) -> Option<()> {
     let end = timeline.kept();
     let a = point(timeline.cluster().graph(), "a", &[0])?;
     changes(alloc, timeline, 0, &a, 0, end).ok()?;
+    let queued = Atom::Queue {
+        from: 0,
+        to: 0,
+        at_least: 1,
+    };
+    turns(alloc, timeline, &only(queued), 0, end).ok()?;
     for before in 0..end {
         effect(alloc, timeline, before.saturating_add(1)).ok()?;
     }
@@ -163,45 +169,6 @@ fn refused<A: Allocator + Copy>(
     script: &Script,
 ) -> Option<u64> {
     in_turn!(heap: ask(json, alloc, script))
-}
-
-/// Returns the last turn of whether a change waits for processor 0, and how many turns there are.
-fn turned<A: Allocator + Copy>(alloc: A, timeline: &Timeline<A>) -> Option<(Option<u64>, usize)> {
-    let queued = Atom::Queue {
-        from: 0,
-        to: 0,
-        at_least: 1,
-    };
-    let turns = turns(alloc, timeline, &only(queued), 0, timeline.kept()).ok()?;
-    let positions = turns.positions.as_slice();
-    Some((positions.last().copied(), positions.len()))
-}
-
-/// Returns how many requests for these turns were refused before they met none. A list that is refused its room at once grows as it
-/// is filled; so the turns are the same, or memory runs out.
-fn refused_turns<A: Allocator + Copy>(heap: &Heap, json: Global, alloc: A) -> Option<u64> {
-    let timeline = kept(json, alloc, &ALL)?;
-    let wanted = turned(alloc, &timeline)?;
-    for n in 0..MANY {
-        heap.refuse(n);
-        let told = turned(alloc, &timeline);
-        let met = heap.relent(n);
-        if told != Some(wanted) && (told.is_some() || !met) {
-            return None;
-        }
-        if !met {
-            return Some(n);
-        }
-    }
-    None
-}
-
-#[test]
-fn turns_out_of_memory(rt: HostRuntime) {
-    let heap = Refusing::new(rt.alloc());
-    let count = refused_turns(&heap, rt.alloc(), &heap);
-    assert!(rt; matches!(count, Some(n) if n > 0));
-    assert!(rt; heap.live() == 0);
 }
 
 #[test]

@@ -1,17 +1,24 @@
 use Rattle.std.proofs.Common.{◌≡◌, ◌≤◌, ◌<◌, ◌+◌, length, get_or, refl, true≢false, sym, subst, unsigned_abs}
 use Rattle.nd_time.specs.Limits.{max_count}
-use Rattle.nd_delta.specs.Delta.{entries}
+use Rattle.nd_graph.specs.Graph.{Dataflow}
+use Rattle.nd_delta.specs.Delta.{DeltaValue, entries}
+use Rattle.nd_view.specs.Kept.{IsFor}
+use Rattle.nd_view.specs.View.{IsBefore, IsOnFrontier, IsPartWhere}
+use Rattle.nd_protocol.specs.State.{view}
 use Rattle.nd_why.proofs.Taken.{IsTaken, within_limit, taken_none, taken_skip, taken_one, taken_all}
 use Rattle.nd_why.proofs.Turns.{small}
 use Rattle.nd_why.proofs.query.frontier_before.Goals as goal
 use Rattle.nd_why.proofs.query.frontier_before.Goals.{then-is_before+in_ok-put, else-is_before}
 
+pub frontier-requires : goal.frontier-requires
+frontier-requires g c = subst (λ (k : Dataflow). IsFor k c.view.result.now) (sym c.paths-paths.ensures) c.view.ensures.paths
+
 pub loop-entry-init : goal.loop-entry-init
 loop-entry-init g c = record {
   frontier = c.in_ok-frontier.frontier;
-  part = c.in_ok-frontier.ensures.value;
+  part = subst (λ (e : Dataflow × DeltaValue). IsPartWhere (IsOnFrontier e.0 e.1) e.1 c.in_ok-frontier.frontier) (λ i. (c.paths-paths.ensures i, c.view.ensures.map i)) c.in_ok-frontier.ensures.value;
   items = c.entries-entry-items.ensures.listed;
-  taken = taken_none c.args.paths.now c.args.question.now.strictly c.args.question.now.point c.in_ok-frontier.frontier c.new-before.result c.new-before.ensures;
+  taken = taken_none c.args.parts.now.graph c.args.question.now.strictly c.args.question.now.point c.in_ok-frontier.frontier c.new-before.result c.new-before.ensures;
 }
 
 pub put-requires : goal.put-requires
@@ -36,19 +43,19 @@ loop-entry-preserved g c =
         frontier = v.frontier;
         part = v.part;
         items = v.items;
-        taken = subst (λ d. IsTaken c.args.paths.now c.args.question.now.strictly c.args.question.now.point v.frontier d (i + 1)) (sym w.before-is)
-            (taken_one c.args.paths.now c.args.question.now.strictly c.args.question.now.point v.frontier c.loop-entry.before w.put.new.self i x lt is (w.if-is_before.ensures.0 refl) (rw (small x.1 within) at w.in_ok-put.ensures.ok) v.taken);
+        taken = subst (λ d. IsTaken c.args.parts.now.graph c.args.question.now.strictly c.args.question.now.point v.frontier d (i + 1)) (sym w.before-is)
+            (taken_one c.args.parts.now.graph c.args.question.now.strictly c.args.question.now.point v.frontier c.loop-entry.before w.put.new.self i x lt is (subst (λ (k : Dataflow). IsBefore k c.args.question.now.strictly x.0 c.args.question.now.point) c.paths-paths.ensures (w.if-is_before.ensures.0 refl)) (rw (small x.1 within) at w.in_ok-put.ensures.ok) v.taken);
       }
       | else-is_before w ↦ record {
         frontier = v.frontier;
         part = v.part;
         items = v.items;
-        taken = subst (λ d. IsTaken c.args.paths.now c.args.question.now.strictly c.args.question.now.point v.frontier d (i + 1)) (sym w.before-is)
-            (taken_skip c.args.paths.now c.args.question.now.strictly c.args.question.now.point v.frontier c.loop-entry.before i x lt is (λ could. true≢false (sym (w.if-is_before.ensures.1 could))) v.taken);
+        taken = subst (λ d. IsTaken c.args.parts.now.graph c.args.question.now.strictly c.args.question.now.point v.frontier d (i + 1)) (sym w.before-is)
+            (taken_skip c.args.parts.now.graph c.args.question.now.strictly c.args.question.now.point v.frontier c.loop-entry.before i x lt is (λ could. true≢false (sym (w.if-is_before.ensures.1 (subst (λ (k : Dataflow). IsBefore k c.args.question.now.strictly x.0 c.args.question.now.point) (sym c.paths-paths.ensures) could)))) v.taken);
       }
     ]
 
 pub returns : goal.returns
 returns g c =
     let v = c.loop-entry.invariant in
-    taken_all c.args.paths.now c.args.question.now.strictly c.args.question.now.point v.frontier c.args.known.now.map c.loop-entry.before c.loop-entry.entry-index (rw v.items at c.loop-entry-test.false) v.part v.taken
+    taken_all c.args.parts.now.graph c.args.question.now.strictly c.args.question.now.point v.frontier (view c.args.parts.now c.args.question.now.q) c.loop-entry.before c.loop-entry.entry-index (rw v.items at c.loop-entry-test.false) v.part v.taken

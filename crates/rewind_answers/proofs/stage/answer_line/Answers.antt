@@ -1,10 +1,10 @@
-use Rattle.std.proofs.Common.{ℕ, [], refl}
+use Rattle.std.proofs.Common.{ℕ, [], refl, inl}
 use Rattle.rewind_lines.specs.Lines.{blank}
 use Rattle.rewind_answers.specs.Answers.{Answers}
 use Rattle.rewind_answers.specs.Stages.{phase_of}
 use Rattle.rewind_answers.specs.declared.stage.Stage.{Stage}
 use Rattle.rewind_answers.specs.declared.stage.Stage.TheVariants.{Unopened, Unstarted, Running}
-use Rattle.rewind_answers.proofs.TextLaws.{bad_line, long_line}
+use Rattle.rewind_answers.proofs.TextLaws.{bad_line, long_line, unmade}
 use Rattle.rewind_answers.proofs.stage.answer_line.Goals as goal
 
 -- a blank line has no reply, and changes nothing
@@ -18,14 +18,17 @@ returns-in-Blank g c = record {
   answers = (
       rw c.in-Blank.is (skipped c.args.stage.now c.args.line)
       );
+  memory = tt;
 }
 
 pub returns-in-TooLong : goal.returns-in-TooLong
 returns-in-TooLong g c = record {
   answers = rw c.in-TooLong.is (long_line c.args.stage.now c.args.line c.answer_fault.result c.answer_fault.ensures.reply c.answer_fault.ensures.after);
+  memory = unmade c.answer_fault.result (inl refl);
 }
 
 pub returns-in-NoJson : goal.returns-in-NoJson
 returns-in-NoJson g c = record {
   answers = rw c.in-NoJson.is (bad_line c.args.stage.now c.args.line c.answer_fault-in-NoJson.result c.answer_fault-in-NoJson.ensures.reply c.answer_fault-in-NoJson.ensures.after);
+  memory = unmade c.answer_fault-in-NoJson.result (inl refl);
 }

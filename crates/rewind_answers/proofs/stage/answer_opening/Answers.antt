@@ -6,4 +6,5 @@ use Rattle.rewind_answers.proofs.stage.answer_opening.Goals as goal
 pub returns : goal.returns
 returns c = record {
   answers = rw (c.goes_on.ensures.0, c.goes_on.ensures.1) (version (number_of c.in-Some.version), (search rules), c.in_ok-text.ensures.reply);
+  memory = tt;
 }

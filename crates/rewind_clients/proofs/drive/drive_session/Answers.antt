@@ -8,7 +8,7 @@ use Rattle.rewind_clients.specs.Intakes.{lists_of}
 use Rattle.rewind_clients.specs.Told.{is_full, machine_of}
 use Rattle.rewind_clients.proofs.ServedLemmas.{driven}
 use Rattle.rewind_clients.proofs.Starts.{same_start}
-use Rattle.rewind_clients.proofs.drive.drive_session.Goals.{else-len-lt-LOG_LIMIT-via-then-len-lt-LOG_LIMIT+else-any_full, else-len-lt-LOG_LIMIT-via-else-len-lt-LOG_LIMIT}
+use Rattle.rewind_clients.proofs.drive.drive_session.Goals.{else-len-lt-MAX_LOG-via-then-len-lt-MAX_LOG+else-any_full, else-len-lt-MAX_LOG-via-else-len-lt-MAX_LOG}
 use Rattle.rewind_clients.proofs.drive.drive_session.Goals as goal
 
 pub returns-then-same_graph-clause-told : goal.returns-then-same_graph-clause-told
@@ -26,9 +26,9 @@ returns-then-same_graph-clause-told g c =
     let full : IsTrue (list_any is_full c.in_ok-clients.faults.items) → length c.in-Ok.log.entries.items ≡ max_log = λ met.
     let few = c.in-Ok.ensures.settled.few in
     let size : c.in-Ok.log.entries.len ≡ length c.in-Ok.log.entries.items = search rules in
-    elim c.else-len-lt-LOG_LIMIT.branch [
-      | else-len-lt-LOG_LIMIT-via-then-len-lt-LOG_LIMIT+else-any_full w ↦ absurd (false≢true (sym w.if-any_full.false ∙ (w.any_full.ensures ∙ (ap (list_any is_full) w.as_slice.ensures.value ∙ met))))
-      | else-len-lt-LOG_LIMIT-via-else-len-lt-LOG_LIMIT w ↦ omega (arith, few, size, c.len.ensures, w.if-len-lt-LOG_LIMIT.false)
+    elim c.else-len-lt-MAX_LOG.branch [
+      | else-len-lt-MAX_LOG-via-then-len-lt-MAX_LOG+else-any_full w ↦ absurd (false≢true (sym w.if-any_full.false ∙ (w.any_full.ensures ∙ (ap (list_any is_full) w.as_slice.ensures.value ∙ met))))
+      | else-len-lt-MAX_LOG-via-else-len-lt-MAX_LOG w ↦ omega (arith, few, size, c.len.ensures, w.if-len-lt-MAX_LOG.false)
     ] in
     driven (lists_of c.args.commands.items) c.in_ok-tasks.tasks.items c.in_ok-done.done.items c.in_ok-clients.clients.items c.in_ok-clients.faults.items c.in-Ok.log.entries.items (machine_of c.in-Ok.log) c.in-Ok.log.entered
     c.in_ok-tasks.ensures.fresh c.in_ok-done.ensures.done (sym clients ∙ (c.in_ok-done.ensures.len ∙ tasks)) c.in_ok-clients.ensures.clients c.in_ok-clients.ensures.faults c.in_ok-clients.ensures.ended full c.in-Ok.ensures.whole c.in-Ok.ensures.settled

@@ -3,8 +3,8 @@ use Rattle.nd_protocol.specs.Fitting.{IsState}
 use Rattle.nd_steps.specs.Records.{Makes}
 use Rattle.nd_cluster.proofs.cluster.Cluster.back.Goals as goal
 
-pub back-requires : goal.back-requires
-back-requires g c =
+pub undo_record-requires : goal.undo_record-requires
+undo_record-requires g c =
     let s = c.requires.state in
     let h = c.requires.leads in
     (s, h.planned.state, subst (λ t. Makes s c.args.made.now t) (sym h.after ∙ sym c.self.view_is) h.planned.makes)

@@ -13,8 +13,8 @@ finished_after : {A : Type 0} (s : ClusterState) (x : Step A) (p : Pointstamp) â
 unfolding after
 finished_after s x p h = h
 
-pub commit-requires-clause-makes : goal.commit-requires-clause-makes
-commit-requires-clause-makes g c =
+pub commit_record-requires-clause-makes : goal.commit_record-requires-clause-makes
+commit_record-requires-clause-makes g c =
     let r = c.args.planned.now in
     (stepped c.args.self.now r.step, subst (Î» s. Makes s r (stepped c.args.self.now r.step)) (sym c.self.view_is) c.requires.makes)
 

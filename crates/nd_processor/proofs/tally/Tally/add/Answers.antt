@@ -6,7 +6,7 @@ use Rattle.nd_processor.proofs.tally.Tally.add.Goals as goal
 pub invariant_of-self : goal.invariant_of-self
 invariant_of-self g c =
     edited_kept g.K.Ord.cmp g.met.K.Ord.total c.self.inside.map c.args.key.now c.self.invariant _ c.args.n
-    (record { some = c.if-n-eq0.false; within = c.if-n-gt-COUNT_LIMIT.false })
+    (record { some = c.if-n-eq0.false; within = c.if-n-gt-MAX_COUNT.false })
     (λ m e count said. raised m c.args.n e c.if-n-eq0.false (search rules) (search rules))
     c.put_or_edit.result c.put_or_edit.new.self c.put_or_edit.ensures.said c.put_or_edit.ensures.done c.put_or_edit.ensures.err
 
