@@ -5,7 +5,7 @@ ghost use Rattle.nd_graph.specs.Graph.{location_count};
 ghost use Rattle.nd_breaks.specs.Conditions.{AtomHolds, LiteralHolds, Holds, HoldsAs, condition_of, with_literal};
 
 use arrayvec::ArrayVec;
-use nd_cluster::Cluster;
+use nd_cluster::{Cluster, Extent};
 use nd_paths::Pointstamp;
 use nd_time::limits::MAX_LITERALS;
 use std::alloc::{AllocError, Allocator, Global};
@@ -91,7 +91,8 @@ impl Atom {
                 *vertex < cluster.graph().vertices().len()
                     && *at_least <= cluster.sink_count(*vertex, *value)
             }
-            Atom::Finished { point } => has_place(cluster, point) && cluster.finished(point),
+            Atom::Finished { point } => has_place(cluster, point)
+                && cluster.finished(point, Extent::AtOrBefore),
             Atom::View { q, point, at_least } => {
                 let q = *q as usize;
                 q < cluster.n()

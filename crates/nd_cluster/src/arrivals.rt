@@ -1,7 +1,8 @@
 //! What a processor knows of the times that can still arrive.
-ghost use Rattle.std.specs.Prelude.{◌≡◌, ◌↔◌, ◌<◌, IfOk, IsTrue, OnErr, Some, true, length};
+ghost use Rattle.std.specs.Prelude.{◌≡◌, ◌↔◌, ◌<◌, IfOk, IsTrue, OnErr, Some, length};
 ghost use Rattle.std.specs.FinMap as fin;
 ghost use Rattle.nd_view.specs.View.{IsOnFrontier, IsPassedBefore};
+ghost use Rattle.nd_view.specs.declared.extent.Extent.TheVariants.{StrictlyBefore};
 ghost use Rattle.nd_view.specs.Arrivals.{AreArrivals, AreExact, AreApart};
 ghost use Rattle.nd_paths.specs.declared.point.Pointstamp.{Pointstamp as Point};
 ghost use Rattle.nd_protocol.specs.State.{processor, view};
@@ -47,7 +48,7 @@ impl<A: Allocator + Copy> Cluster<A> {
     pub fn passed_before(&self, q: usize, point: &Pointstamp) -> bool
         requires { q < length self.now.processors }
         ensures passed { IsTrue result
-            ↔ IsPassedBefore self.now.graph true (view self.now q) point.now }
+            ↔ IsPassedBefore self.now.graph StrictlyBefore (view self.now q) point.now }
         ensures due { IsTrue result → (b : Point)
             → IsRefused {A = A} self.now (Noticing q point.now.location point.now.time) (NotYet b)
             → ⊥ }

@@ -29,6 +29,7 @@ pub use moves::Allowed;
 pub use nd_paths::ArrivalTime;
 pub use nd_protocol::{Next, NoMemory, Part, Points, Refusal, Step, Values};
 pub use nd_steps::{Altered, Change, Changes, Effect, Entries, Entry, ItemAt, Record, Slot};
-pub use nd_why::{Held, Reason, Reasons, Unheard};
+pub use nd_view::Extent;
+pub use nd_why::{Held, Question, Reason, Reasons, Unheard};
 pub use saved::Saved;
 pub use start::StartFault;

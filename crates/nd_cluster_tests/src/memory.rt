@@ -3,7 +3,7 @@
 
 use crate::copies::go;
 use crate::refused::Heap;
-use nd_cluster::{Allowed, Cluster, Next, Step};
+use nd_cluster::{Allowed, Cluster, Extent, Next, Question, Step};
 use nd_examples::{
     HELD, HELD_MOVED, LINE, LOOP, SUM_NOTIFIED, Script, Sent, TRACED, Told, point, processors_of,
     start, step_of, values_of,
@@ -134,8 +134,14 @@ fn ask<A: Allocator + Copy>(alloc: A, cluster: &Cluster<A>) -> Option<()> {
     cluster.candidates().ok()?;
     choose(alloc, cluster)?;
     cluster.frontier_at(alloc, 0, z.location).ok()?;
-    cluster.why(alloc, 0, &z).ok()?;
-    cluster.why_before(alloc, 0, &z).ok()?;
+    for extent in [Extent::AtOrBefore, Extent::StrictlyBefore] {
+        let asked = Question {
+            q: 0,
+            point: z.copy(),
+            extent,
+        };
+        cluster.why(alloc, &asked).ok()?;
+    }
     cluster.copy(alloc).ok()?;
     Some(())
 }

@@ -15,7 +15,8 @@ use Rattle.nd_view.specs.View.{IsOnFrontier, IsPartWhere}
 use Rattle.nd_view.specs.Kept.{Kept, IsFor}
 use Rattle.nd_view.specs.Arrivals.{CanArrive, AreArrivals, AreExact, AreReached, AreMinimal, HaveOneDepth}
 use Rattle.nd_view.proofs.Frontiers.{IsOrder, frontier_hinders}
-use Rattle.nd_view.proofs.Moves.{index_some}
+use Rattle.nd_view.specs.PartLaws.{index_some, part-entry}
+use Rattle.nd_view.specs.declared.extent.Extent.TheVariants.{AtOrBefore}
 use Rattle.nd_view.proofs.TimeOrder.{before_through, before_both}
 
 some_same : (a b : ℕ) → Some a ≡ Some b → a ≡ b
@@ -42,18 +43,20 @@ pub entry_on_frontier : (g : Dataflow) (m f : DeltaValue) → IsPartWhere (IsOnF
 entry_on_frontier g m f part [] is some = absurd (some refl)
 entry_on_frontier g m f part (e ∷ rest) is some =
     let x : Pointstamp = (get_or (entries f) 0 e).0 in
-    (x, part.only x (index_some f 0 e (omega (arith, ap length is))))
+    (x, part-entry (IsOnFrontier g m) m f part 0 e (omega (arith, ap length is)))
 
 module _ (g : Dataflow) (order : IsOrder g) (on : WalksLeadOn g) (v : Kept) (kept_for : IsFor g v) (f : DeltaValue) (part : IsPartWhere (IsOnFrontier g v.map) v.map f) (x : ℕ)
     (times sorted : List Time) (reached : AreReached g (entries f) x times) (permuted : IsPermutation times sorted) (least : List Time) (minimal : AreMinimal sorted least) where
   -- each time that a positive point could result in has one of the least times at or before it
   found : (s : Pointstamp) (t : Time) → pos 0 <ℤ at v.map s → CouldResultIn g s (record { location = x; time = t }) → HasAtOrBefore least t
   found s t positive could =
-      let (y, front, close) = frontier_hinders g order v kept_for false (record { location = x; time = t }) s (record { positive = positive; before = could }) in
+      let close = frontier_hinders g order v kept_for AtOrBefore (record { location = x; time = t }) s (record { positive = positive; before = could }) in
+      let y = close.point in
+      let front = close.frontier in
       let some : at f y ≢ pos 0 = λ e. not_zero (at v.map y) front.positive (sym (part.all y front) ∙ e) in
       let place = place_of f y some in
       let e = get_or (entries f) place.index (y, at f y) in
-      let there : CouldResultIn g e.0 (record { location = x; time = t }) = subst (λ z. CouldResultIn g z (record { location = x; time = t })) (sym place.is) close in
+      let there : CouldResultIn g e.0 (record { location = x; time = t }) = subst (λ z. CouldResultIn g z (record { location = x; time = t })) (sym place.is) close.before in
       let (u, among, before) = reached.least e (place.index, place.in_range, get_or_default (entries f) place.index e (y, at f y) place.in_range) t there in
       let (w, chosen, first) = minimal.covers u (Contains-permutation times sorted u permuted among) in
       (w, chosen, before_through w u t first before)

@@ -5,14 +5,17 @@ use Rattle.std.proofs.lemmas.List.{get_or-map, length-map}
 use Rattle.std.specs.FinMap.{find}
 use Rattle.nd_paths.specs.Point.{point_cmp, point_exact}
 use Rattle.nd_graph.specs.Graph.{Dataflow}
-use Rattle.nd_paths.specs.Order.{CouldResultIn, IsStrictlyBefore}
+use Rattle.nd_paths.specs.Order.{CouldResultIn, Fits, IsStrictlyBefore}
 use Rattle.nd_paths.specs.Laws.{IsMinimalAmong}
 use Rattle.nd_paths.specs.declared.point.Pointstamp.{Pointstamp}
 use Rattle.nd_delta.specs.Delta.{DeltaValue, at, entries, points_of, part, has_point, is_point, at-part}
 use Rattle.nd_delta.specs.Least.{place_of}
-use Rattle.nd_view.specs.View.{IsBefore, IsPositiveBefore, IsPrecursor, IsOnFrontier, IsPartWhere, IsCount}
+use Rattle.nd_view.specs.View.{IsBefore, IsPositiveBefore, IsPrecursor, IsOnFrontier, IsPartWhere, IsCount, HasFrontierBefore, FrontierCovers}
+use Rattle.nd_view.specs.declared.extent.Extent.{Extent}
+use Rattle.nd_view.specs.declared.extent.Extent.TheVariants.{AtOrBefore, StrictlyBefore}
 use Rattle.nd_view.specs.Kept.{Kept, IsKeptAt, IsFor, IsFrontierList}
-use Rattle.nd_view.proofs.Moves.{index_some, itself}
+use Rattle.nd_view.specs.PartLaws.{index_some}
+use Rattle.nd_view.proofs.Moves.{itself}
 use Rattle.nd_view.proofs.Fors.{zero_of_frontier, frontier_of_zero}
 use Rattle.std.proofs.lemmas.List.Folds.{list_any_at}
 use Rattle.std.proofs.lemmas.Map.Views.{Contains-from_any, tells_apart}
@@ -20,13 +23,14 @@ use Rattle.nd_map.specs.Cases.{not_zero}
 
 -- the order of an accepted graph, as its paths give it
 pub record IsOrder (g : Dataflow) : Type 0 where
+  pub reflexive : (s : Pointstamp) → Fits g s → CouldResultIn g s s
   pub transitive : (s t u : Pointstamp) → CouldResultIn g s t → CouldResultIn g t u → CouldResultIn g s u
   pub strict : (s t u : Pointstamp) → IsStrictlyBefore g s t → IsStrictlyBefore g t u → IsStrictlyBefore g s u
   pub minimal : (p : Pointstamp) (ps : List Pointstamp) → (m : Pointstamp) × IsMinimalAmong g (p ∷ ps) m
 
 module _ (g : Dataflow) (order : IsOrder g) (m : DeltaValue) where
   -- each positive point has a point of the frontier at or before it
-  pub frontier_before : (x : Pointstamp) (n : ℕ) → pos 0 <ℤ at m x → IsCount (IsPrecursor g m x) m n → (y : Pointstamp) × IsOnFrontier g m y × ((y ≡ x) ⊎ IsStrictlyBefore g y x)
+  frontier_before : (x : Pointstamp) (n : ℕ) → pos 0 <ℤ at m x → IsCount (IsPrecursor g m x) m n → (y : Pointstamp) × IsOnFrontier g m y × ((y ≡ x) ⊎ IsStrictlyBefore g y x)
   frontier_before x n positive counted =
       let f = counted.0 in
       let ps = points_of (entries f) in
@@ -56,22 +60,30 @@ module _ (g : Dataflow) (order : IsOrder g) (m : DeltaValue) where
           )
 
 -- a point before x is before everything that x is before
-through : (g : Dataflow) → IsOrder g → (strictly : Bool) (y x t : Pointstamp) → (y ≡ x) ⊎ IsStrictlyBefore g y x → IsBefore g strictly x t → IsBefore g strictly y t
-through g order true y x t (inl same) before = subst (λ z. IsStrictlyBefore g z t) (sym same) before
-through g order true y x t (inr earlier) before = order.strict y x t earlier before
-through g order false y x t (inl same) before = subst (λ z. CouldResultIn g z t) (sym same) before
-through g order false y x t (inr earlier) before = order.transitive y x t earlier.0 before
+through : (g : Dataflow) → IsOrder g → (extent : Extent) (y x t : Pointstamp) → (y ≡ x) ⊎ IsStrictlyBefore g y x → IsBefore g extent x t → IsBefore g extent y t
+through g order StrictlyBefore y x t (inl same) before = subst (λ z. IsStrictlyBefore g z t) (sym same) before
+through g order StrictlyBefore y x t (inr earlier) before = order.strict y x t earlier before
+through g order AtOrBefore y x t (inl same) before = subst (λ z. CouldResultIn g z t) (sym same) before
+through g order AtOrBefore y x t (inr earlier) before = order.transitive y x t earlier.0 before
+
+-- a point before x is at or before x
+near : (g : Dataflow) → IsOrder g → (y x : Pointstamp) → Fits g x → (y ≡ x) ⊎ IsStrictlyBefore g y x → CouldResultIn g y x
+near g order y x fits (inl same) = subst (λ z. CouldResultIn g z x) (sym same) (order.reflexive x fits)
+near g order y x fits (inr earlier) = earlier.0
+
+fits_before : (g : Dataflow) (extent : Extent) (x t : Pointstamp) → IsBefore g extent x t → Fits g x
+fits_before g AtOrBefore x t before = before.fits_s
+fits_before g StrictlyBefore x t before = before.0.fits_s
 
 -- if something positive is before t, something on the frontier is
-pub frontier_hinders : (g : Dataflow) → IsOrder g → (v : Kept) → IsFor g v → (strictly : Bool) (t x : Pointstamp) → IsPositiveBefore g v.map strictly t x
-    → (y : Pointstamp) × IsOnFrontier g v.map y × IsBefore g strictly y t
-frontier_hinders g order v h strictly t x b = by (find point_cmp x v.counts) (h.each x)
+pub frontier_hinders : (g : Dataflow) → IsOrder g → (v : Kept) → IsFor g v → FrontierCovers g v.map
+frontier_hinders g order v h extent t x b = by (find point_cmp x v.counts) (h.each x)
   where
-    by : (o : Option ℕ) → IsKeptAt g v.map x o → (y : Pointstamp) × IsOnFrontier g v.map y × IsBefore g strictly y t
+    by : (o : Option ℕ) → IsKeptAt g v.map x o → HasFrontierBefore g v.map extent t x
     by None never = absurd (never b.positive)
     by (Some n) kept =
         let least = frontier_before g order v.map x n kept.0 kept.1 in
-        (least.0, least.1, through g order strictly least.0 x t least.2 b.before)
+        record { point = least.0; frontier = least.1; before = through g order extent least.0 x t least.2 b.before; near = near g order least.0 x (fits_before g extent x t b.before) least.2 }
 
 -- the part at the listed points is the part on the frontier
 pub frontier_part : (g : Dataflow) (v : Kept) → IsFor g v → (m : DeltaValue) → m ≡ v.map → (frontier : List Pointstamp) (room : ℕ) → IsFrontierList v.counts frontier room → (f : DeltaValue) → f ≡ part m frontier → IsPartWhere (IsOnFrontier g v.map) v.map f

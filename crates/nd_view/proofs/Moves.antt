@@ -60,13 +60,6 @@ pub first_one : (es : List (Pointstamp × ℤ)) → 0 < length es → record { p
 first_one [] lt = absurd (omega (arith, lt))
 first_one (e ∷ es) lt = record { point = e.0; value = e.1; found = find-head point_cmp point_total e es }
 
--- the point of an entry has an integer
-pub index_some : (m : DeltaValue) (k : ℕ) (d : Pointstamp × ℤ) → k < length (entries m) → at m (get_or (entries m) k d).0 ≢ pos 0
-index_some m k d lt e =
-    let q = (get_or (entries m) k d).0 in
-    let found : find point_cmp q (entries m) ≡ Some (get_or (entries m) k d).1 = find-index point_cmp point_total (entries m) k d (sorted-entries m) lt in
-    some-entry m q (get_or (entries m) k d).1 found (sym (ap or_zero found) ∙ at-entries m q ∙ e)
-
 -- a change with no other points is no larger
 pub size_within : (k : ℕ) (f m : DeltaValue) → size f ≡ k → ((q : Pointstamp) → at f q ≢ pos 0 → at m q ≢ pos 0) → k ≤ size m
 size_within zero f m e h = omega arith

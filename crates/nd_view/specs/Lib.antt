@@ -5,5 +5,6 @@ pub mod Room
 pub mod Rows
 pub mod Settled
 pub mod View
+pub mod PartLaws
 pub mod Views
 pub mod Arrivals

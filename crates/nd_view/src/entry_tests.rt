@@ -4,37 +4,37 @@ ghost use Rattle.std.specs.Prelude.{◌↔◌, Any, IsTrue};
 ghost use Rattle.nd_view.specs.View.{IsBefore};
 ghost use Rattle.nd_view.specs.Room.{IsWithinRoom};
 
+use crate::Extent;
 use nd_paths::{Paths, Pointstamp};
 use std::alloc::Allocator;
 
-/// Returns whether `first` is at or before `point` or, if `strictly`, strictly before it.
+/// Returns whether `first` is before `point`.
 pub fn is_before<B: Allocator>(
     first: &Pointstamp,
     paths: &Paths<B>,
     point: &Pointstamp,
-    strictly: bool,
+    extent: Extent,
 ) -> bool
-    ensures { IsTrue result ↔ IsBefore paths.now strictly first.now point.now }
+    ensures { IsTrue result ↔ IsBefore paths.now extent first.now point.now }
 {
-    if strictly {
-        paths.strictly_before(first, point)
-    } else {
-        paths.before(first, point)
+    match extent {
+        Extent::AtOrBefore => paths.before(first, point),
+        Extent::StrictlyBefore => paths.strictly_before(first, point),
     }
 }
 
-/// Returns whether one of the pointstamps is at or before `point` or, if `strictly`, strictly before it.
+/// Returns whether one of the pointstamps is before `point`.
 pub fn any_before<B: Allocator>(
     points: &[Pointstamp],
     paths: &Paths<B>,
     point: &Pointstamp,
-    strictly: bool,
+    extent: Extent,
 ) -> bool
-    ensures { IsTrue result ↔ Any (λ x. IsBefore paths.now strictly x point.now) points.now }
+    ensures { IsTrue result ↔ Any (λ x. IsBefore paths.now extent x point.now) points.now }
 {
     points
         .iter()
-        .any(|one: &Pointstamp| is_before(one, paths, point, strictly))
+        .any(|one: &Pointstamp| is_before(one, paths, point, extent))
 }
 
 /// Returns whether it takes memory to replace the integer `old` by `new`.

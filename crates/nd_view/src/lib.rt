@@ -5,6 +5,7 @@
 mod adding;
 mod arrivals;
 mod entry_tests;
+mod extent;
 mod keeping;
 mod links;
 mod precursor_counts;
@@ -18,11 +19,12 @@ ghost use Rattle.nd_paths.specs.declared.point.Pointstamp.{Pointstamp};
 ghost use Rattle.nd_delta.specs.declared.DeltaFault.{DeltaFault};
 ghost use Rattle.nd_delta.specs.Delta.{none, at, plus, minus, combined, IsTooLarge, IsWithin, entries as listed};
 ghost use Rattle.nd_delta.specs.Least.{IsLeast};
-ghost use Rattle.nd_view.specs.View.{IsPassed, IsBlocker, IsPrecursor, IsOnFrontier, IsCount, IsPartWhere, IsPositiveBefore};
+ghost use Rattle.nd_view.specs.View.{IsPassed, IsBlocker, IsPrecursor, IsOnFrontier, IsCount, IsPartWhere, IsPositiveBefore, FrontierCovers};
 ghost use Rattle.nd_view.specs.Kept.{Kept, IsKeptAt, IsFor};
 
 use entry_tests::any_before;
 pub use entry_tests::is_before;
+pub use extent::Extent;
 use keeping::counted_anew;
 use nd_delta::{Delta, DeltaFault, LargeDelta};
 use nd_map::Iter;
@@ -203,40 +205,39 @@ impl<A: Allocator + Copy> View<A> {
         self.change(paths, delta, true)
     }
 
-    // Returns whether something positive is at or before `point` or, if `strictly`, strictly before it. It
-    // looks only at the frontier.
+    // Returns whether something positive is before `point`. It looks only at the frontier.
     fn is_hindered<B: Allocator>(
         &self,
         paths: &Paths<B>,
         point: &Pointstamp,
-        strictly: bool,
+        extent: Extent,
     ) -> bool
         requires { IsFor paths.now self.now }
         ensures { IsTrue result ↔ ((x : Pointstamp)
-            × IsPositiveBefore paths.now self.now.map strictly point.now x) }
+            × IsPositiveBefore paths.now self.now.map extent point.now x) }
     {
         paths.order_is_partial();
-        any_before(self.precursor_counts.frontier(), paths, point, strictly)
+        any_before(self.precursor_counts.frontier(), paths, point, extent)
     }
 
-    // Returns the least positive pointstamp at or before `point` or, if `strictly`, strictly before it.
+    // Returns the least positive pointstamp before `point`.
     fn least_before<B: Allocator>(
         &self,
         paths: &Paths<B>,
         point: &Pointstamp,
-        strictly: bool,
+        extent: Extent,
     ) -> Option<Pointstamp>
         requires { IsFor paths.now self.now }
         ensures nothing { IsNone result ↔ ((x : _)
-            → IsPositiveBefore paths.now self.now.map strictly point.now x → ⊥) }
+            → IsPositiveBefore paths.now self.now.map extent point.now x → ⊥) }
         ensures least { IfSome result
-            (IsLeast (IsPositiveBefore paths.now self.now.map strictly point.now)) }
+            (IsLeast (IsPositiveBefore paths.now self.now.map extent point.now)) }
     {
-        if !self.is_hindered(paths, point, strictly) {
+        if !self.is_hindered(paths, point, extent) {
             return None;
         }
         for (first, n) in self.entries() {
-            if *n > 0 && is_before(first, paths, point, strictly) {
+            if *n > 0 && is_before(first, paths, point, extent) {
                 return Some(first.copy());
             }
         }
@@ -248,7 +249,7 @@ impl<A: Allocator + Copy> View<A> {
         requires { IsFor paths.now self.now }
         ensures { IsTrue result ↔ IsPassed paths.now self.now.map point.now }
     {
-        !self.is_hindered(paths, point, false)
+        !self.is_hindered(paths, point, Extent::AtOrBefore)
     }
 
     /// Returns the least positive pointstamp at or before `point`.
@@ -257,7 +258,7 @@ impl<A: Allocator + Copy> View<A> {
         ensures passed { IsNone result ↔ IsPassed paths.now self.now.map point.now }
         ensures least { IfSome result (IsLeast (IsBlocker paths.now self.now.map point.now)) }
     {
-        self.least_before(paths, point, false)
+        self.least_before(paths, point, Extent::AtOrBefore)
     }
 
     /// Returns the least positive pointstamp strictly before `point`.
@@ -271,7 +272,7 @@ impl<A: Allocator + Copy> View<A> {
             ↔ ((x : _) → IsPrecursor paths.now self.now.map point.now x → ⊥) }
         ensures least { IfSome result (IsLeast (IsPrecursor paths.now self.now.map point.now)) }
     {
-        self.least_before(paths, point, true)
+        self.least_before(paths, point, Extent::StrictlyBefore)
     }
 
     /// Returns the number of positive pointstamps strictly before `point`. The number is stored if `point` is
@@ -287,17 +288,15 @@ impl<A: Allocator + Copy> View<A> {
     }
 
     /// Returns the part of the view at its positive pointstamps with nothing positive strictly before them.
-    /// It takes no memory if there are none.
-    pub fn frontier<B: Allocator>(
-        &self,
-        alloc: A,
-        _paths: &Paths<B>,
-    ) -> Result<Delta<A>, AllocError>
-        requires { IsFor _paths.now self.now }
+    /// It takes no memory if there are none. What is positive has one of them at or before it.
+    pub fn frontier<B: Allocator>(&self, alloc: A, paths: &Paths<B>) -> Result<Delta<A>, AllocError>
+        requires { IsFor paths.now self.now }
         ensures value { IfOk result
-            (IsPartWhere (IsOnFrontier _paths.now self.now.map) self.now.map) }
-        ensures some { OnErr result ((x : Pointstamp) × IsOnFrontier _paths.now self.now.map x) }
+            (IsPartWhere (IsOnFrontier paths.now self.now.map) self.now.map) }
+        ensures some { OnErr result ((x : Pointstamp) × IsOnFrontier paths.now self.now.map x) }
+        ensures covers { FrontierCovers paths.now self.now.map }
     {
+        paths.order_is_partial();
         self.counts.part(alloc, self.precursor_counts.frontier())
     }
 }

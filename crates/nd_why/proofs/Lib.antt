@@ -1,6 +1,5 @@
 mod Before
 mod Nothing
-mod Order
 mod Sums
 mod Taken
 mod Turns

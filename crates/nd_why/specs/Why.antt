@@ -1,5 +1,5 @@
 -- Why a processor does not consider a pointstamp finished (this project's own rule, based on FORTE 2013).
-use Rattle.std.specs.Prelude.{◌≡◌, ◌<◌, ◌+ℤ◌, Bool, false, ℕ, zero, suc, ℤ, pos, negsuc, cond, List, [], ◌∷◌, ◌++◌, Contains, length, map, slice_index_or, sum_by}
+use Rattle.std.specs.Prelude.{◌≡◌, ◌<◌, ◌+ℤ◌, ℕ, zero, suc, ℤ, pos, negsuc, cond, List, [], ◌∷◌, ◌++◌, Contains, length, map, slice_index_or, sum_by}
 use Rattle.std.specs.List.{flat_map, Any}
 use Rattle.std.specs.FinMap as fin
 use Rattle.nd_graph.specs.Graph.{Dataflow}
@@ -7,6 +7,7 @@ use Rattle.nd_map.specs.Counts.{entries as numbers}
 use Rattle.nd_paths.specs.Order.{CouldResultIn}
 use Rattle.nd_paths.specs.declared.point.Pointstamp.{Pointstamp}
 use Rattle.nd_delta.specs.Delta.{DeltaValue, none, at, is_point, entries}
+use Rattle.nd_view.specs.declared.extent.Extent.{Extent}
 use Rattle.nd_view.specs.View.{IsBefore, IsOnFrontier, IsPartWhere}
 use Rattle.nd_processor.specs.State.{ProcessorState, idle, token_point}
 use Rattle.nd_processor.specs.declared.key.ValueAt.{ValueAt}
@@ -16,6 +17,7 @@ use Rattle.nd_why.specs.declared.answer.Held.{Held}
 use Rattle.nd_why.specs.declared.answer.Held.TheVariants.{Records, Request, Token}
 use Rattle.nd_why.specs.declared.answer.Unheard.{Unheard}
 use Rattle.nd_why.specs.declared.answer.Unheard.TheVariants.{Unsent, Queued}
+use Rattle.nd_why.specs.declared.question.Question.{Question}
 
 -- f 0, then f 1, ..., then f (n - 1)
 abbrev pub in_turn : {X : Type 0} → ℕ → (ℕ → List X) → List X
@@ -74,29 +76,29 @@ unheard_at s q b = in_turn (length s.processors) (λ p. unheard_from p (processo
 
 -- ---- what is outstanding
 
--- some pointstamp before t, strictly or not, has a number above 0
-pub record HasBefore (g : Dataflow) (strictly : Bool) (t : Pointstamp) (count : Pointstamp → ℕ) : Type 0 where
+-- some pointstamp before t has a number above 0
+pub record HasBefore (g : Dataflow) (extent : Extent) (t : Pointstamp) (count : Pointstamp → ℕ) : Type 0 where
   pub point : Pointstamp
-  pub before : IsBefore g strictly point t
+  pub before : IsBefore g extent point t
   pub some : 0 < count point
 
 -- the processor has a record before t; `RequestBefore` and `TokenBefore` are the same for requests and tokens
-abbrev pub RecordBefore : Dataflow → Bool → Pointstamp → ProcessorState → Type 0
-RecordBefore g strictly t q =
-    Any (λ (e : ValueAt × ℕ). IsBefore g strictly e.0.point t) (numbers q.records)
+abbrev pub RecordBefore : Dataflow → Extent → Pointstamp → ProcessorState → Type 0
+RecordBefore g extent t q =
+    Any (λ (e : ValueAt × ℕ). IsBefore g extent e.0.point t) (numbers q.records)
 
-abbrev pub RequestBefore : Dataflow → Bool → Pointstamp → ProcessorState → Type 0
-RequestBefore g strictly t q =
-    Any (λ (e : Pointstamp × Unit {0}). IsBefore g strictly e.0 t) (fin.entries q.requests)
+abbrev pub RequestBefore : Dataflow → Extent → Pointstamp → ProcessorState → Type 0
+RequestBefore g extent t q =
+    Any (λ (e : Pointstamp × Unit {0}). IsBefore g extent e.0 t) (fin.entries q.requests)
 
-abbrev pub TokenBefore : Dataflow → Bool → Pointstamp → ProcessorState → Type 0
-TokenBefore g strictly t q =
-    Any (λ (e : ℕ × ℕ). IsBefore g strictly (token_point e.0 e.1) t) (fin.entries q.tokens)
+abbrev pub TokenBefore : Dataflow → Extent → Pointstamp → ProcessorState → Type 0
+TokenBefore g extent t q =
+    Any (λ (e : ℕ × ℕ). IsBefore g extent (token_point e.0 e.1) t) (fin.entries q.tokens)
 
--- nothing outstanding is before t, strictly or not
-abbrev pub IsFinishedBefore : ClusterState → Bool → Pointstamp → Type 0
-IsFinishedBefore s strictly t =
-    (x : Pointstamp) → IsBefore s.graph strictly x t → at (truth s.processors) x ≡ pos 0
+-- nothing outstanding is before t
+abbrev pub IsFinishedBefore : ClusterState → Extent → Pointstamp → Type 0
+IsFinishedBefore s extent t =
+    (x : Pointstamp) → IsBefore s.graph extent x t → at (truth s.processors) x ≡ pos 0
 
 -- ---- the reasons
 
@@ -104,21 +106,18 @@ IsFinishedBefore s strictly t =
 abbrev pub account : ClusterState → ℕ → Pointstamp → Account
 account s q b = record { point = b; held = held_at s.processors b; unheard = unheard_at s q b; view = at (view s q) b }
 
--- b is on the frontier of the view v, and before t: strictly before it, or at or before it
-pub record IsReason (g : Dataflow) (v : DeltaValue) (strictly : Bool) (t b : Pointstamp) : Type 0 where
+-- b is on the frontier of the view v, and before t
+pub record IsReason (g : Dataflow) (v : DeltaValue) (extent : Extent) (t b : Pointstamp) : Type 0 where
   pub frontier : IsOnFrontier g v b
-  pub before : IsBefore g strictly b t
+  pub before : IsBefore g extent b t
 
--- the accounts are those of the reasons why q does not consider everything before t finished, in the order of listing
-abbrev pub IsWhyBefore : ClusterState → Bool → ℕ → Pointstamp → List Account → Type 0
-IsWhyBefore s strictly q t accounts =
+-- the accounts are those of the reasons why the asked processor does not consider everything before the asked pointstamp finished,
+-- in the order of listing
+abbrev pub IsWhy : ClusterState → Question → List Account → Type 0
+IsWhy s asked accounts =
     (reasons : DeltaValue)
-    × IsPartWhere (IsReason s.graph (view s q) strictly t) (view s q) reasons
-    × (accounts ≡ map (λ e. account s q e.0) (entries reasons))
-
--- the same for t itself and everything before it
-abbrev pub IsWhy : ClusterState → ℕ → Pointstamp → List Account → Type 0
-IsWhy s q t accounts = IsWhyBefore s false q t accounts
+    × IsPartWhere (IsReason s.graph (view s asked.q) asked.extent asked.point) (view s asked.q) reasons
+    × (accounts ≡ map (λ e. account s asked.q e.0) (entries reasons))
 
 -- some account is of a pointstamp at or before x
 pub record HasReasonBefore (g : Dataflow) (accounts : List Account) (x : Pointstamp) : Type 0 where

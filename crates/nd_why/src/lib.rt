@@ -7,7 +7,9 @@ mod holdings;
 mod news;
 mod outstanding;
 mod query;
+mod question;
 
 pub use answer::{Held, Reason, Reasons, Unheard};
 pub use outstanding::finished;
-pub use query::{Question, why};
+pub use query::why;
+pub use question::Question;

@@ -46,10 +46,10 @@ use Rattle.rewind_forms.specs.declared.asked.Asked.{Asked}
 use Rattle.rewind_forms.specs.declared.asked.Asked.TheVariants.{Do, Tell}
 use Rattle.rewind_forms.specs.declared.queries.Search.{Search as Searching}
 use Rattle.rewind_forms.specs.declared.queries.Query.{Query}
-use Rattle.rewind_forms.specs.declared.queries.Query.TheVariants.{State, Count, Before, View, Frontier, Passed, Search, Export, Why, Changes, Step, Candidates, Effect, Turns, FrontierAt, WhyBefore, Reach}
+use Rattle.rewind_forms.specs.declared.queries.Query.TheVariants.{State, Count, Before, View, Frontier, Passed, Search, Export, Why, Changes, Step, Candidates, Effect, Turns, FrontierAt, Reach}
 use Rattle.rewind_answers.specs.Ahead.{CandidatesReply, FrontierAtReply}
 use Rattle.rewind_answers.specs.Reached.{ReachReply}
-use Rattle.rewind_answers.specs.Explained.{WhyReply, WhyBeforeReply, ChangesReply, ExportReply, StepReply, EffectReply, TurnsReply}
+use Rattle.rewind_answers.specs.Explained.{WhyReply, ChangesReply, ExportReply, StepReply, EffectReply, TurnsReply}
 
 -- a machine, and how many of its commands are logged
 pub record Logged : Type 0 where
@@ -174,14 +174,13 @@ QueryReply m (Frontier q) reply = FrontierReply (cluster_of m) q reply
 QueryReply m (Passed q x) reply = PassedReply (cluster_of m) q x reply
 QueryReply m (Search s) reply = SearchReply m s reply
 QueryReply m Export reply = ExportReply m reply
-QueryReply m (Why q x) reply = WhyReply (cluster_of m) q x reply
+QueryReply m (Why asked) reply = WhyReply (cluster_of m) asked reply
 QueryReply m (Changes asked) reply = ChangesReply m asked reply
 QueryReply m (Step to) reply = StepReply m to reply
 QueryReply m Candidates reply = CandidatesReply (cluster_of m) reply
 QueryReply m (Effect to) reply = EffectReply m to reply
 QueryReply m (Turns asked) reply = TurnsReply m asked reply
 QueryReply m (FrontierAt q l) reply = FrontierAtReply (cluster_of m) q l reply
-QueryReply m (WhyBefore q x) reply = WhyBeforeReply (cluster_of m) q x reply
 QueryReply m (Reach asked) reply = ReachReply (cluster_of m) asked reply
 
 -- The reply to a command: that of a move of the machine, with the names of the graph, and the command is logged; or LogFull,

@@ -5,16 +5,16 @@ use Rattle.std.specs.declared.alloc.Global.{Global}
 use Rattle.serde_json.specs.Data.{Data}
 use Rattle.nd_graph.specs.Graph.{Dataflow}
 use Rattle.nd_paths.specs.declared.point.Pointstamp.{Pointstamp}
-use Rattle.nd_view.specs.View.{IsPassed, IsPassedBefore}
+use Rattle.nd_view.specs.View.{IsPassedBefore}
 use Rattle.nd_protocol.specs.State.{ClusterState, view}
-use Rattle.nd_protocol.specs.Invariant.{IsFinished}
 use Rattle.nd_protocol.specs.declared.step.Step.{Step}
 use Rattle.nd_state_json.specs.StateText.{row, natural}
 use Rattle.nd_timeline.specs.Timeline.{TimelineValue, cluster_of}
 use Rattle.nd_timeline.specs.Faults.{code_of}
 use Rattle.nd_timeline.specs.declared.fault.Fault.TheVariants.{NoSuchPoint}
 use Rattle.nd_why.specs.Account.{Account}
-use Rattle.nd_why.specs.Why.{IsWhy, IsWhyBefore, IsFinishedBefore}
+use Rattle.nd_why.specs.Why.{IsWhy, IsFinishedBefore}
+use Rattle.nd_why.specs.declared.question.Question.{Question}
 use Rattle.nd_steps.specs.Effect.{lists_of}
 use Rattle.nd_history.specs.Told.{IsTold}
 use Rattle.nd_history.specs.ViewChanges.{changes_of, MayTell, CannotTell}
@@ -71,36 +71,21 @@ pub data EffectReply (m : TimelineValue Global) (to : ℕ) (reply : Data) : Type
 
 -- ---- why
 
--- the reasons why q does not consider t finished; whether its view has passed t; and whether t is finished
-pub record TellsWhy (s : ClusterState) (q : ℕ) (t : Pointstamp) (reply : Data) : Type 0 where
+-- the reasons why the asked processor does not consider everything before the asked pointstamp finished; whether its view has
+-- passed all of that; and whether all of that is finished
+pub record TellsWhy (s : ClusterState) (asked : Question) (reply : Data) : Type 0 where
   pub accounts : List Account
-  pub whole : IsWhy s q t accounts
+  pub whole : IsWhy s asked accounts
   pub passed : Bool
-  pub has_passed : IsTrue passed ↔ IsPassed s.graph (view s q) t
+  pub has_passed : IsTrue passed ↔ IsPassedBefore s.graph asked.extent (view s asked.q) asked.point
   pub finished : Bool
-  pub is_finished : IsTrue finished ↔ IsFinished s t
+  pub is_finished : IsTrue finished ↔ IsFinishedBefore s asked.extent asked.point
   pub told : reply ≡ why finished passed (reasons_data s.graph accounts)
 
-abbrev pub WhyReply : ClusterState → ℕ → Pointstamp → Data → Type 0
-WhyReply s q t reply =
-    ((length s.processors ≤ q) × (reply ≡ no_processor))
-    ⊎ ((q < length s.processors) × TellsWhy s q t reply)
-
--- the reasons why q does not consider everything strictly before t finished; whether its view has passed all of that; and whether
--- all of that is finished
-pub record TellsWhyBefore (s : ClusterState) (q : ℕ) (t : Pointstamp) (reply : Data) : Type 0 where
-  pub accounts : List Account
-  pub whole : IsWhyBefore s true q t accounts
-  pub passed : Bool
-  pub has_passed : IsTrue passed ↔ IsPassedBefore s.graph true (view s q) t
-  pub finished : Bool
-  pub is_finished : IsTrue finished ↔ IsFinishedBefore s true t
-  pub told : reply ≡ why finished passed (reasons_data s.graph accounts)
-
-abbrev pub WhyBeforeReply : ClusterState → ℕ → Pointstamp → Data → Type 0
-WhyBeforeReply s q t reply =
-    ((length s.processors ≤ q) × (reply ≡ no_processor))
-    ⊎ ((q < length s.processors) × TellsWhyBefore s q t reply)
+abbrev pub WhyReply : ClusterState → Question → Data → Type 0
+WhyReply s asked reply =
+    ((length s.processors ≤ asked.q) × (reply ≡ no_processor))
+    ⊎ ((asked.q < length s.processors) × TellsWhy s asked reply)
 
 -- ---- changes
 

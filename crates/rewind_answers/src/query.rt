@@ -10,7 +10,7 @@ use crate::ahead::{answer_candidates, answer_frontier_at};
 use crate::answer::cluster;
 use crate::kept::{answer_effect, answer_export, answer_step};
 use crate::reached::answer_reach;
-use crate::why::{answer_changes, answer_turns, answer_why, answer_why_before};
+use crate::why::{answer_changes, answer_turns, answer_why};
 use nd_cluster::Cluster;
 use nd_history::{OpenGate, SearchFault, search_in};
 use nd_paths::Pointstamp;
@@ -177,14 +177,13 @@ pub fn answer_query<R: Threads + Sync>(
         Query::Passed(q, point) => answer_passed(alloc, cluster, *q, point),
         Query::Search(search) => answer_search(rt, alloc, state, search),
         Query::Export => answer_export(alloc, state.timeline()),
-        Query::Why(q, point) => answer_why(alloc, cluster, *q, point),
+        Query::Why(asked) => answer_why(alloc, cluster, asked),
         Query::Changes(asked) => answer_changes(alloc, state.timeline(), asked),
         Query::Step(to) => answer_step(alloc, state.timeline(), *to),
         Query::Candidates => answer_candidates(alloc, cluster),
         Query::Effect(to) => answer_effect(alloc, state.timeline(), *to),
         Query::Turns(asked) => answer_turns(alloc, state.timeline(), asked),
         Query::FrontierAt(q, location) => answer_frontier_at(alloc, cluster, *q, *location),
-        Query::WhyBefore(q, point) => answer_why_before(alloc, cluster, *q, point),
         Query::Reach(asked) => answer_reach(alloc, cluster, asked),
     }
 }

@@ -1,58 +1,45 @@
 //! The replies that say why a processor does not consider a pointstamp finished, when its view changed, and when a condition turned.
-ghost use Rattle.std.specs.Prelude.{◌≡◌, Some, IfOk};
+ghost use Rattle.std.specs.Prelude.{◌≡◌, ◌↔◌, ◌<◌, Some, IfOk, IsTrue, length};
+ghost use Rattle.nd_view.specs.View.{IsPassedBefore};
+ghost use Rattle.nd_protocol.specs.State.{view};
 ghost use Rattle.rewind_forms.specs.Replies.{TellsOne};
-ghost use Rattle.rewind_answers.specs.Explained.{WhyReply, WhyBeforeReply, ChangesReply, changes_fault, TurnsReply, turns_fault};
+ghost use Rattle.rewind_answers.specs.Explained.{WhyReply, ChangesReply, changes_fault, TurnsReply, turns_fault};
 
 use crate::query::no_processor;
-use nd_cluster::Cluster;
+use nd_cluster::{Cluster, Extent, Question};
 use nd_history::{ChangesFault, TurnsFault, changes, turns};
-use nd_paths::Pointstamp;
 use nd_timeline::Timeline;
 use rewind_forms::{NoNames, Turns, ViewChanges, object, text_of};
 use std::alloc::{AllocError, Global};
 
-/// Replies with the reasons why a processor does not consider a pointstamp finished, and whether it is finished.
+// Returns whether the asked processor's view is positive at no pointstamp before the asked one.
+fn has_passed(cluster: &Cluster, asked: &Question) -> bool
+    requires { asked.now.q < length cluster.now.processors }
+    ensures { IsTrue result ↔ IsPassedBefore cluster.now.graph asked.now.extent
+        (view cluster.now asked.now.q) asked.now.point }
+{
+    match asked.extent {
+        Extent::AtOrBefore => cluster.passed(asked.q, &asked.point),
+        Extent::StrictlyBefore => cluster.passed_before(asked.q, &asked.point),
+    }
+}
+
+/// Replies with the reasons why a processor does not consider everything before a pointstamp finished, and whether it is finished.
 pub(crate) fn answer_why(
     alloc: Global,
     cluster: &Cluster,
-    q: u32,
-    point: &Pointstamp,
+    asked: &Question,
 ) -> Result<Vec<u8>, AllocError>
-    ensures reply { IfOk result (λ t. TellsOne (WhyReply cluster.now q point.now) t.items) }
+    ensures reply { IfOk result (λ t. TellsOne (WhyReply cluster.now asked.now) t.items) }
 {
-    let q = q as usize;
-    if q >= cluster.n() {
+    if asked.q >= cluster.n() {
         return no_processor(alloc);
     }
-    let Ok(reasons) = cluster.why(alloc, q, point) else {
+    let Ok(reasons) = cluster.why(alloc, asked) else {
         return Err(AllocError);
     };
-    let passed = cluster.passed(q, point);
-    let finished = cluster.finished(point);
-    let reasons = reasons.as_slice();
-    let reply = object! {"finished": finished, "ok": true, "passed": passed, "reasons": reasons};
-    text_of(alloc, cluster.graph(), &reply)
-}
-
-/// Replies with the reasons why a processor does not consider everything strictly before a pointstamp finished, and whether it is
-/// finished.
-pub(crate) fn answer_why_before(
-    alloc: Global,
-    cluster: &Cluster,
-    q: u32,
-    point: &Pointstamp,
-) -> Result<Vec<u8>, AllocError>
-    ensures reply { IfOk result (λ t. TellsOne (WhyBeforeReply cluster.now q point.now) t.items) }
-{
-    let q = q as usize;
-    if q >= cluster.n() {
-        return no_processor(alloc);
-    }
-    let Ok(reasons) = cluster.why_before(alloc, q, point) else {
-        return Err(AllocError);
-    };
-    let passed = cluster.passed_before(q, point);
-    let finished = cluster.finished_before(point);
+    let passed = has_passed(cluster, asked);
+    let finished = cluster.finished(&asked.point, asked.extent);
     let reasons = reasons.as_slice();
     let reply = object! {"finished": finished, "ok": true, "passed": passed, "reasons": reasons};
     text_of(alloc, cluster.graph(), &reply)

@@ -1,9 +1,11 @@
 -- The query that a line asks for. The shapes of its values are tested first, then the names, then the times.
-use Rattle.std.specs.Prelude.{codes, if◌then◌else◌, Result, Ok}
+use Rattle.std.specs.Prelude.{Bool, codes, if◌then◌else◌, Result, Ok}
 use Rattle.serde_json.specs.Data.{Data}
 use Rattle.serde_json.specs.Find.{get}
 use Rattle.nd_json.specs.Forms.{boolean_at, text_at, small_at, whole_at}
 use Rattle.nd_graph.specs.Graph.{Dataflow}
+use Rattle.nd_view.specs.declared.extent.Extent.{Extent}
+use Rattle.nd_view.specs.declared.extent.Extent.TheVariants.{AtOrBefore, StrictlyBefore}
 use Rattle.rewind_forms.specs.Forms.{given, after, point_at}
 use Rattle.rewind_forms.specs.Places.{location_named, time_of, point_there}
 use Rattle.rewind_forms.specs.Conditions.{condition_of}
@@ -14,7 +16,7 @@ use Rattle.rewind_forms.specs.declared.form.QueryForm.TheVariants as form
 use Rattle.rewind_forms.specs.declared.fault.LineFault.{LineFault}
 use Rattle.rewind_forms.specs.declared.fault.LineFault.TheVariants.{BadShape, UnknownName, BadTime}
 use Rattle.rewind_forms.specs.declared.queries.Query.{Query}
-use Rattle.rewind_forms.specs.declared.queries.Query.TheVariants.{State, Count, Before, View, Frontier, Passed, Search, Export, Why, Changes, Step, Candidates, Effect, Turns, FrontierAt, WhyBefore, Reach}
+use Rattle.rewind_forms.specs.declared.queries.Query.TheVariants.{State, Count, Before, View, Frontier, Passed, Search, Export, Why, Changes, Step, Candidates, Effect, Turns, FrontierAt, Reach}
 
 unfoldable pub count_of : Dataflow → Data → Result Query LineFault
 count_of g d = after (point_there g d) (λ point. Ok (Count point))
@@ -55,7 +57,7 @@ unfoldable pub why_of : Dataflow → Data → Result Query LineFault
 why_of g d =
     given BadShape (small_at (codes "q") d) (λ q.
     after (point_there g d) (λ point.
-    Ok (Why q point)))
+    Ok (Why (record { q = q; point = point; extent = AtOrBefore }))))
 
 unfoldable pub changes_of : Dataflow → Data → Result Query LineFault
 changes_of g d =
@@ -86,13 +88,17 @@ frontier_at_of g d =
     given UnknownName (location_named g name) (λ l.
     Ok (FrontierAt q l))))
 
+-- the pointstamps that a question is about
+abbrev pub extent_of : Bool → Extent
+extent_of strictly = if strictly then StrictlyBefore else AtOrBefore
+
 -- {"before":false} means the same as no such key
 unfoldable pub why_before_of : Dataflow → Data → Result Query LineFault
 why_before_of g d =
     given BadShape (small_at (codes "q") d) (λ q.
     given BadShape (boolean_at (codes "before") d) (λ strictly.
     after (point_there g d) (λ point.
-    Ok (if strictly then WhyBefore q point else Why q point))))
+    Ok (Why (record { q = q; point = point; extent = extent_of strictly })))))
 
 unfoldable pub reach_of : Version → Dataflow → Data → Result Query LineFault
 reach_of v g d =

@@ -4,7 +4,7 @@ ghost use Rattle.serde_json.specs.View.{view};
 ghost use Rattle.rewind_forms.specs.Forms.{FailsWith};
 ghost use Rattle.rewind_forms.specs.Queries.{count_of as count_in, before_of as before_in, view_of as view_in, frontier_of as frontier_in, passed_of as passed_in, search_of as search_in, query_of as query_in};
 ghost use Rattle.rewind_forms.specs.Queries.{why_of as why_in, changes_of as changes_in, kept_step_of as kept_step_in};
-ghost use Rattle.rewind_forms.specs.Queries.{effect_of as effect_in, turns_of as turns_in, frontier_at_of as frontier_at_in, why_before_of as why_before_in, reach_of as reach_in, reach_with_of as reach_with_in};
+ghost use Rattle.rewind_forms.specs.Queries.{effect_of as effect_in, turns_of as turns_in, frontier_at_of as frontier_at_in, why_before_of as why_before_in, extent_of as extent_in, reach_of as reach_in, reach_with_of as reach_with_in};
 
 use crate::allowed::{NOTHING, allowed_at};
 use crate::conditions::condition_of;
@@ -12,6 +12,7 @@ use crate::places::{location_named, time_of};
 use crate::points::{point_at, point_there};
 use crate::{LineFault, QueryForm, Version};
 use nd_breaks::Condition;
+use nd_cluster::{Extent, Question};
 use nd_graph::Graph;
 use nd_json::{boolean_at, small_at, text_at, whole_at};
 use nd_paths::Pointstamp;
@@ -72,8 +73,8 @@ pub enum Query {
     Search(Search),
     /// All kept steps.
     Export,
-    /// The reasons why a processor's view has not passed a pointstamp.
-    Why(u32, Pointstamp),
+    /// The reasons why a processor does not consider everything before a pointstamp finished.
+    Why(Question),
     /// The kept positions at which a processor's view of a pointstamp changed.
     Changes(ViewChanges),
     /// The kept step that leads to a position.
@@ -86,8 +87,6 @@ pub enum Query {
     Turns(Turns),
     /// The times that can still arrive at a location, according to a processor's view.
     FrontierAt(u32, usize),
-    /// The reasons why a processor's view counts something strictly before a pointstamp.
-    WhyBefore(u32, Pointstamp),
     /// The steps by which a condition can still come to hold.
     Reach(Reach),
 }
@@ -178,9 +177,13 @@ fn why_of(alloc: Global, graph: &Graph, value: &Value) -> Result<Query, LineFaul
     ensures ok { IfOk result (λ c. why_in graph.now (view value.now) ≡ Ok c) }
     ensures err { IfErr result (FailsWith (why_in graph.now (view value.now))) }
 {
-    let processor = small_at(value, "q").ok_or(LineFault::BadShape)?;
+    let q = small_at(value, "q").ok_or(LineFault::BadShape)?;
     let point = point_there(alloc, graph, value)?;
-    Ok(Query::Why(processor, point))
+    Ok(Query::Why(Question {
+        q: q as usize,
+        point,
+        extent: Extent::AtOrBefore,
+    }))
 }
 
 #[tactic(auto, unfolding(crate::specs::Queries::changes_of))]
@@ -238,6 +241,17 @@ fn frontier_at_of(graph: &Graph, value: &Value) -> Result<Query, LineFault>
     Ok(Query::FrontierAt(q, location))
 }
 
+// Returns which pointstamps a question is about.
+fn extent_of(strictly: bool) -> Extent
+    ensures { result ≡ extent_in strictly }
+{
+    if strictly {
+        Extent::StrictlyBefore
+    } else {
+        Extent::AtOrBefore
+    }
+}
+
 #[tactic(auto, unfolding(crate::specs::Queries::why_before_of))]
 fn why_before_of(alloc: Global, graph: &Graph, value: &Value) -> Result<Query, LineFault>
     ensures ok { IfOk result (λ c. why_before_in graph.now (view value.now) ≡ Ok c) }
@@ -246,11 +260,11 @@ fn why_before_of(alloc: Global, graph: &Graph, value: &Value) -> Result<Query, L
     let q = small_at(value, "q").ok_or(LineFault::BadShape)?;
     let strictly = boolean_at(value, "before").ok_or(LineFault::BadShape)?;
     let point = point_there(alloc, graph, value)?;
-    if strictly {
-        Ok(Query::WhyBefore(q, point))
-    } else {
-        Ok(Query::Why(q, point))
-    }
+    Ok(Query::Why(Question {
+        q: q as usize,
+        point,
+        extent: extent_of(strictly),
+    }))
 }
 
 #[tactic(auto, unfolding(crate::specs::Queries::reach_of))]

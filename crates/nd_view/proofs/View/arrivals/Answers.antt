@@ -22,7 +22,7 @@ of_err (Ok x) q = tt
 of_err (Err e) q = q
 
 order : (g : Over) (c : goal.After-drop-frontier-inside-2 g) → IsOrder c.args.paths.now
-order g c = let laws = c.order_is_partial.ensures in record { transitive = laws.transitive; strict = laws.strict; minimal = laws.minimal }
+order g c = let laws = c.order_is_partial.ensures in record { reflexive = laws.reflexive; transitive = laws.transitive; strict = laws.strict; minimal = laws.minimal }
 
 -- the times reached from the frontier
 reached : (g : Over) (c : goal.After-drop-frontier-inside-2 g) → AreReached c.args.paths.now (entries c.in_ok-frontier.frontier) c.args.location c.in_ok-times.times.items

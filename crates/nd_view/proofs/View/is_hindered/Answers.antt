@@ -10,13 +10,13 @@ returns g c =
     let v = c.args.self.now in
     let listed = subst (λ k. IsFrontierList k.counts c.frontier.result.now (length k.counts)) c.self.view_is c.frontier.ensures in
     let laws = c.order_is_partial.ensures in
-    let order : IsOrder d = record { transitive = laws.transitive; strict = laws.strict; minimal = laws.minimal } in (
+    let order : IsOrder d = record { reflexive = laws.reflexive; transitive = laws.transitive; strict = laws.strict; minimal = laws.minimal } in (
       λ e.
           let found = c.any_before.ensures.0 e in
           let on = frontier_of_zero d v c.requires found.1 (listed.only found.1 (found.0, found.2, found.3)) in
           (found.1, record { positive = on.positive; before = found.4 }),
       λ found.
-          let first = frontier_hinders d order v c.requires c.args.strictly c.args.point.now found.0 found.1 in
-          let among = listed.all first.0 (zero_of_frontier d v c.requires first.0 first.1) in
-          c.any_before.ensures.1 (among.0, first.0, among.1, among.2, first.2),
+          let first = frontier_hinders d order v c.requires c.args.extent c.args.point.now found.0 found.1 in
+          let among = listed.all first.point (zero_of_frontier d v c.requires first.point first.frontier) in
+          c.any_before.ensures.1 (among.0, first.point, among.1, among.2, first.before),
     )

@@ -10,5 +10,5 @@ use Rattle.nd_view.proofs.View.least_before.Given as goal
 abbrev pub invariant-loop-first : goal.invariant-loop-first
 invariant-loop-first g l = record {
   left : IsLeft l.self.map l.first-iterator;
-  all : (q : Pointstamp) → IsPositiveBefore l.paths l.self.map l.strictly l.point q → find point_cmp q l.first-iterator ≢ None;
+  all : (q : Pointstamp) → IsPositiveBefore l.paths l.self.map l.extent l.point q → find point_cmp q l.first-iterator ≢ None;
 }

@@ -2,10 +2,10 @@ use Rattle.std.proofs.Common.{◌≡◌, refl}
 use Rattle.nd_state_json.specs.StateText.{state_data}
 use Rattle.nd_timeline.specs.Timeline.{cluster_of}
 use Rattle.rewind_forms.specs.Replies.{count, state}
-use Rattle.rewind_forms.specs.declared.queries.Query.TheVariants.{State, Count, Before, View, Frontier, Passed, Search, Export, Why, Changes, Step, Candidates, Effect, Turns, FrontierAt, WhyBefore, Reach}
+use Rattle.rewind_forms.specs.declared.queries.Query.TheVariants.{State, Count, Before, View, Frontier, Passed, Search, Export, Why, Changes, Step, Candidates, Effect, Turns, FrontierAt, Reach}
 use Rattle.rewind_answers.specs.Ahead.{CandidatesReply, FrontierAtReply}
 use Rattle.rewind_answers.specs.Answers.{BeforeReply, ViewReply, FrontierReply, PassedReply, SearchReply, true_count}
-use Rattle.rewind_answers.specs.Explained.{WhyReply, WhyBeforeReply, ChangesReply, ExportReply, StepReply, EffectReply, TurnsReply}
+use Rattle.rewind_answers.specs.Explained.{WhyReply, ChangesReply, ExportReply, StepReply, EffectReply, TurnsReply}
 use Rattle.rewind_answers.specs.Reached.{ReachReply}
 use Rattle.rewind_answers.proofs.TextLaws.{query_text}
 use Rattle.rewind_answers.proofs.query.answer_query.Goals as goal
@@ -75,7 +75,7 @@ pub returns-in-Why : goal.returns-in-Why
 returns-in-Why g c = record {
   reply =
       let m = c.args.state.now.machine.timeline in
-      query_text (λ s v. WhyReply s c.in-Why.q c.in-Why.point v) m c.cluster-cluster.result.now (cluster_of m) c.args.query.now (Why c.in-Why.q c.in-Why.point) c.answer_why.result
+      query_text (λ s v. WhyReply s c.in-Why.asked v) m c.cluster-cluster.result.now (cluster_of m) c.args.query.now (Why c.in-Why.asked) c.answer_why.result
       c.cluster-cluster.ensures.value c.in-Why.is (λ v h. h) c.answer_why.ensures.reply;
 }
 
@@ -125,14 +125,6 @@ returns-in-FrontierAt g c = record {
       let m = c.args.state.now.machine.timeline in
       query_text (λ s v. FrontierAtReply s c.in-FrontierAt.q c.in-FrontierAt.location v) m c.cluster-cluster.result.now (cluster_of m) c.args.query.now (FrontierAt c.in-FrontierAt.q c.in-FrontierAt.location) c.answer_frontier_at.result
       c.cluster-cluster.ensures.value c.in-FrontierAt.is (λ v h. h) c.answer_frontier_at.ensures.reply;
-}
-
-pub returns-in-WhyBefore : goal.returns-in-WhyBefore
-returns-in-WhyBefore g c = record {
-  reply =
-      let m = c.args.state.now.machine.timeline in
-      query_text (λ s v. WhyBeforeReply s c.in-WhyBefore.q c.in-WhyBefore.point v) m c.cluster-cluster.result.now (cluster_of m) c.args.query.now (WhyBefore c.in-WhyBefore.q c.in-WhyBefore.point) c.answer_why_before.result
-      c.cluster-cluster.ensures.value c.in-WhyBefore.is (λ v h. h) c.answer_why_before.ensures.reply;
 }
 
 pub returns-in-Reach : goal.returns-in-Reach
