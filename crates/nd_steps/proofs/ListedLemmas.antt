@@ -12,10 +12,8 @@ use Rattle.std.proofs.lemmas.Option.{slice_get-map, slice_get_past, slice_get_re
 use Rattle.std.proofs.lemmas.Int.{ints, to_z-of_z, fits_signed_from_abs}
 use Rattle.nd_delta.specs.Delta.{DeltaValue, entries, IsWithin, at-entries, sorted-entries, or_zero}
 use Rattle.nd_protocol.specs.declared.step.Step.{Step}
-use Rattle.nd_steps.specs.Flows.{told_changes}
-use Rattle.nd_steps.specs.Fed.{fed_changes}
 use Rattle.nd_steps.specs.Listed.{leaves, arrives, listed_by, listed}
-use Rattle.nd_steps.specs.Records.{named_by, named}
+use Rattle.nd_steps.specs.Records.{keyed, named_by, named}
 use Rattle.nd_steps.specs.declared.record.Changes.{Changes}
 use Rattle.nd_steps.specs.declared.record.Changes.TheVariants.{Each, Flowed, Fed, Sent, Received}
 use Rattle.nd_steps.specs.declared.record.Record.{Record}
@@ -100,9 +98,9 @@ module _ (c : DeltaValue) (within : IsWithin c) (es : List (Pointstamp × ℤ)) 
 
 -- as many as the changes name
 named_as_listed : {A : Type 0} (x : Step A) (c : Changes A) → length (listed_by x c) ≡ named_by x c
-named_as_listed x (Each changes) = length-map changes.items Key
-named_as_listed x (Flowed flow) = length-map (told_changes x flow) Key
-named_as_listed x (Fed at) = length-map (fed_changes x at) Key
+named_as_listed x (Each changes) = length-map (keyed x (Each changes)) Key
+named_as_listed x (Flowed flow) = length-map (keyed x (Flowed flow)) Key
+named_as_listed x (Fed at) = length-map (keyed x (Fed at)) Key
 named_as_listed x (Sent p part) = length-append (map (leaves p) (entries part)) (Back p ∷ []) ∙ ap (λ n. n + 1) (length-map (entries part) (leaves p))
 named_as_listed x (Received from to change) = length-append (map (arrives to) (entries change)) (Front from to ∷ []) ∙ ap (λ n. n + 1) (length-map (entries change) (arrives to))
 

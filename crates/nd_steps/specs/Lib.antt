@@ -14,6 +14,7 @@ pub mod Counted
 pub mod Listed
 pub mod Drafts
 pub mod Fed
+pub mod Told
 pub mod Onward
 pub mod Performers
 pub mod Targets

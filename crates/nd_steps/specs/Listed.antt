@@ -5,14 +5,12 @@ use Rattle.nd_delta.specs.Delta.{DeltaValue, entries}
 use Rattle.nd_protocol.specs.State.{ClusterState}
 use Rattle.nd_protocol.specs.declared.step.Step.{Step}
 use Rattle.nd_steps.specs.Changes.{at_key}
-use Rattle.nd_steps.specs.Flows.{told_changes}
-use Rattle.nd_steps.specs.Fed.{fed_changes}
-use Rattle.nd_steps.specs.Records.{named_by, MakesBy}
+use Rattle.nd_steps.specs.Records.{keyed, named_by, MakesBy}
 use Rattle.nd_steps.specs.declared.slot.Slot.TheVariants.{Unsent}
 use Rattle.nd_steps.specs.declared.listed.Entry.{Entry}
 use Rattle.nd_steps.specs.declared.listed.Entry.TheVariants.{Key, View, Back, Front}
 use Rattle.nd_steps.specs.declared.record.Changes.{Changes}
-use Rattle.nd_steps.specs.declared.record.Changes.TheVariants.{Each, Flowed, Fed, Sent, Received}
+use Rattle.nd_steps.specs.declared.record.Changes.TheVariants.{Sent, Received}
 use Rattle.nd_steps.specs.declared.record.Record.{Record}
 
 -- an entry of the part that p sends, removed from what is unsent
@@ -33,11 +31,9 @@ listed_received from to change = map (arrives to) (entries change) ++ Front from
 
 -- what the changes of a step name, in order: the keys of maps, and then the end of a queue
 abbrev pub listed_by : {A : Type 0} → Step A → Changes A → List Entry
-listed_by x (Each changes) = map Key changes.items
-listed_by x (Flowed flow) = map Key (told_changes x flow)
-listed_by x (Fed at) = map Key (fed_changes x at)
 listed_by x (Sent p part) = listed_sent p part
 listed_by x (Received from to change) = listed_received from to change
+listed_by x changes = map Key (keyed x changes)
 
 -- the changes ds of a step name what its changes cs name, in the same order, and lead wherever these lead
 pub record TellsWhat {A : Type 0} (x : Step A) (cs ds : Changes A) : Type 0 where

@@ -203,13 +203,8 @@ fn listed_effect<A: Allocator + Copy>(
     ensures { IfOk result (IsEffectTo parts.now (Makes parts.now planned.now)) }
 {
     match &planned.changes {
-        Changes::Each(changes) => changes_effect(alloc, parts, &Told::whole(changes)),
-        Changes::Flowed(flow) => {
-            changes_effect(alloc, parts, &Told::whole(&flow.told(&planned.step)))
-        }
-        Changes::Fed(at) => {
-            let rest = at.rest(&planned.step);
-            changes_effect(alloc, parts, &at.told(&planned.step, &rest))
+        Changes::Each(_) | Changes::Flowed(_) | Changes::Fed(_) => {
+            changes_effect(alloc, parts, &planned.told())
         }
         Changes::Sent { p, part } => sent_effect(alloc, parts, *p, part),
         Changes::Received { from, to, change } => {

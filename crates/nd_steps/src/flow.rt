@@ -5,6 +5,7 @@ ghost use Rattle.nd_steps.specs.Flows.{arriving, come_changes, flow_changes, tol
 
 use crate::come::Come;
 use crate::order::put_in_order;
+use crate::told::Told;
 use crate::{Change, Slot, record_at};
 use arrayvec::ArrayVec;
 use nd_processor::{Processor, SinkKey, ValueAt};
@@ -85,8 +86,8 @@ impl Flow {
     }
 
     // Lists the changes of a step, in order; none if the step is not a take.
-    pub(crate) fn told<A: Allocator>(&self, step: &Step<A>) -> ArrayVec<Change, MOST>
-        ensures { result.items ≡ told_changes step.now self.now }
+    pub(crate) fn told<'a, A: Allocator>(&self, step: &'a Step<A>) -> Told<'a>
+        ensures { result ≡ told_changes step.now self.now }
     {
         match step {
             Step::Take {
@@ -94,9 +95,9 @@ impl Flow {
                 edge,
                 time,
                 value,
-            } => self.changes(*p, record_at(*edge, time, *value)),
-            Step::Feed { .. } | Step::Notice { .. } | Step::Release { .. } => ArrayVec::new(),
-            Step::Send { .. } | Step::Broadcast { .. } | Step::Receive { .. } => ArrayVec::new(),
+            } => Told::few(self.changes(*p, record_at(*edge, time, *value))),
+            Step::Feed { .. } | Step::Notice { .. } | Step::Release { .. } => Told::whole(&[]),
+            Step::Send { .. } | Step::Broadcast { .. } | Step::Receive { .. } => Told::whole(&[]),
         }
     }
 }

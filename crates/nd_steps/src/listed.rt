@@ -47,7 +47,7 @@ fn of_step(changes: &Told<'_>, i: usize) -> Option<Entry>
     if i >= changes.len() {
         return None;
     }
-    Some(Entry::Key(changes.get(i)))
+    Some(Entry::Key(changes.at(i).copy()))
 }
 
 // Returns change `i` of a broadcast: first the entries of its part, and then the ends of the queues.
@@ -94,9 +94,7 @@ impl<A: Allocator + Copy> Record<A> {
         ensures { result ≡ slice_get (listed self.now) i }
     {
         match &self.changes {
-            Changes::Each(changes) => of_step(&Told::whole(changes), i),
-            Changes::Flowed(flow) => of_step(&Told::whole(&flow.told(&self.step)), i),
-            Changes::Fed(at) => of_step(&at.told(&self.step, &at.rest(&self.step)), i),
+            Changes::Each(_) | Changes::Flowed(_) | Changes::Fed(_) => of_step(&self.told(), i),
             Changes::Sent { p, part } => of_sent(*p, part, i),
             Changes::Received { from, to, change } => of_received(*from, *to, change, i),
         }

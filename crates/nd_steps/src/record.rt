@@ -1,6 +1,6 @@
 //! Records of steps: the changes of each.
 ghost use Rattle.std.specs.Prelude.{◌≡◌, IfOk};
-ghost use Rattle.nd_steps.specs.Records.{named, AreEqual, MakesWhat};
+ghost use Rattle.nd_steps.specs.Records.{keyed, named, AreEqual, MakesWhat};
 ghost use Rattle.nd_steps.specs.Listed.{listed, TellsWhat};
 
 use crate::told::Told;
@@ -56,7 +56,7 @@ pub(crate) fn copied<A: Allocator + Copy>(
     let count = changes.len();
     let mut list = Vec::with_capacity(alloc, count)?;
     for i in 0..count {
-        list.push(changes.get(i))?;
+        list.push(changes.at(i).copy())?;
     }
     Ok(list)
 }
@@ -96,15 +96,25 @@ impl<A: Allocator + Copy> Changes<A> {
 }
 
 impl<A: Allocator + Copy> Record<A> {
+    // Returns the changes at single keys, in order; none of a broadcast or a receive.
+    pub(crate) fn told(&self) -> Told<'_>
+        ensures { result ≡ keyed self.now.step self.now.changes }
+    {
+        match &self.changes {
+            Changes::Each(changes) => Told::whole(changes),
+            Changes::Flowed(flow) => flow.told(&self.step),
+            Changes::Fed(at) => at.told(&self.step),
+            Changes::Sent { .. } | Changes::Received { .. } => Told::whole(&[]),
+        }
+    }
+
     /// Returns the number of entries: the keys of maps and the ends of queues that the changes name. The common end of a broadcast's
     /// queues counts once.
     pub fn entries(&self) -> usize
         ensures { result ≡ named self.now }
     {
         match &self.changes {
-            Changes::Each(changes) => changes.len(),
-            Changes::Flowed(flow) => flow.told(&self.step).len(),
-            Changes::Fed(at) => at.told(&self.step, &at.rest(&self.step)).len(),
+            Changes::Each(_) | Changes::Flowed(_) | Changes::Fed(_) => self.told().len(),
             Changes::Sent { p: _, part } => part.entries().len() + 1,
             Changes::Received {
                 from: _,

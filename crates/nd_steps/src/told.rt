@@ -1,72 +1,97 @@
 //! The changes of a feed, a take, a notice, a release or a send, by their indices.
-ghost use Rattle.std.specs.Prelude.{◌≡◌, ◌<◌, ◌++◌, IfSome, IsTrue, length, map, slice_index_or};
+ghost use Rattle.std.specs.Prelude.{◌≡◌, ◌<◌, ◌++◌, IsTrue, length, map, slice_index_or};
+ghost use Rattle.std.specs.Cow.{cow_value};
 ghost use Rattle.nd_steps.specs.Fed.{arrived};
+ghost use Rattle.nd_steps.specs.Told.{changes_in};
 
+use crate::flow::MOST;
 use crate::{Change, FedAt};
+use arrayvec::ArrayVec;
+use std::borrow::Cow;
 use std::marker::Model;
 
-/// Changes, in order: one for each value that arrives, and then the rest.
+// Changes in place, or in a list of the record.
+#[derive(Drop)]
+pub(crate) enum Rest<'a> {
+    Few(ArrayVec<Change, MOST>),
+    Many(&'a [Change]),
+}
+
+/// Changes, in order: one for each value that arrives, and then the rest. No change of the rest is copied.
 #[derive(Drop)]
 pub(crate) struct Told<'a> {
     at: FedAt,
     values: &'a [i64],
-    rest: &'a [Change],
+    rest: Rest<'a>,
 }
 
 impl<'a> Model for Told<'a> {
     ghost use Rattle.std.specs.Prelude.{List, ◌++◌, map};
     ghost use Rattle.nd_steps.specs.Fed.{arrived};
+    ghost use Rattle.nd_steps.specs.Told.{changes_in};
     ghost use Rattle.nd_steps.specs.declared.change.Change.{Change};
 
     ghost Value = { List Change };
 
-    ghost view = { λ a. map (arrived a.at) a.values.now ++ a.rest.now };
+    ghost view = { λ a. map (arrived a.at) a.values.now ++ changes_in a.rest };
+}
+
+impl<'a> Rest<'a> {
+    // Returns the changes.
+    fn as_slice(&self) -> &[Change]
+        ensures { result.now ≡ changes_in self.now }
+    {
+        match self {
+            Rest::Few(changes) => changes.as_slice(),
+            Rest::Many(changes) => changes,
+        }
+    }
 }
 
 impl<'a> Told<'a> {
     // Returns the changes of a feed whose values arrive.
-    pub(crate) fn fed(at: FedAt, values: &'a [i64], rest: &'a [Change]) -> Told<'a>
-        ensures { result ≡ map (arrived at) values.now ++ rest.now }
+    pub(crate) fn fed(at: FedAt, values: &'a [i64], rest: ArrayVec<Change, MOST>) -> Told<'a>
+        ensures { result ≡ map (arrived at) values.now ++ rest.items }
     {
+        let rest = Rest::Few(rest);
         Told { at, values, rest }
+    }
+
+    // Returns a few changes.
+    pub(crate) fn few(changes: ArrayVec<Change, MOST>) -> Told<'a>
+        ensures { result ≡ changes.items }
+    {
+        Told::fed(FedAt::default(), &[], changes)
     }
 
     // Returns the changes of a list.
     pub(crate) fn whole(changes: &'a [Change]) -> Told<'a>
         ensures { result ≡ changes.now }
     {
-        Told::fed(FedAt::default(), &[], changes)
+        Told {
+            at: FedAt::default(),
+            values: &[],
+            rest: Rest::Many(changes),
+        }
     }
 
     // Returns the number of changes.
     pub(crate) fn len(&self) -> usize
         ensures { result ≡ length self.now }
     {
-        self.values.len() + self.rest.len()
+        self.values.len() + self.rest.as_slice().len()
     }
 
-    // Returns change `i`.
-    pub(crate) fn get(&self, i: usize) -> Change
+    // Returns change `i`. It is built if a value arrives by it.
+    pub(crate) fn at(&self, i: usize) -> Cow<'_, Change>
         requires { i < length self.now }
-        ensures { result ≡ slice_index_or self.now i result }
+        ensures { cow_value result ≡ slice_index_or self.now i (cow_value result) }
     {
         let count = self.values.len();
         if i < count {
-            return self.at.arrived(self.values[i]);
+            return Cow::Owned(self.at.arrived(self.values[i]));
         }
-        self.rest[i - count].copy()
-    }
-
-    // Returns change `i`, unless a value arrives by it.
-    pub(crate) fn listed(&self, i: usize) -> Option<&'a Change>
-        requires { i < length self.now }
-        ensures { IfSome result (λ c. c.now ≡ slice_index_or self.now i c.now) }
-    {
-        let count = self.values.len();
-        if i < count {
-            return None;
-        }
-        Some(&self.rest[i - count])
+        Cow::Borrowed(&self.rest.as_slice()[i - count])
     }
 
     // Returns whether these are the changes.
@@ -77,7 +102,7 @@ impl<'a> Told<'a> {
             return false;
         }
         for i in 0..changes.len() {
-            if !self.get(i).same(&changes[i]) {
+            if !self.at(i).same(&changes[i]) {
                 return false;
             }
         }

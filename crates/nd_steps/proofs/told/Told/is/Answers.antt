@@ -1,5 +1,6 @@
 use Rattle.std.proofs.Common.{◌≡◌, ◌<◌, ◌≤◌, List, [], ◌∷◌, ◌++◌, length, sym, ◌∙◌, arith}
 use Rattle.std.proofs.lemmas.List.{take_all, take_more}
+use Rattle.std.specs.Cow.{cow_value}
 use Rattle.nd_steps.specs.declared.change.Change.{Change}
 use Rattle.nd_steps.proofs.told.Told.is.Goals as goal
 
@@ -10,9 +11,9 @@ loop-i-preserved c =
     let i = c.loop-i.i in
     let lt : i < length cs = omega (arith, c.loop-i-test.true) in
     let lt' : i < length told = omega (arith, lt, c.len.ensures, c.if-len-changes.false) in
-    let here : c.get.result ≡ c.index-changes-i.result = c.same.ensures c.if-not-same.false in
-    take_more told i c.get.result lt'
-    ∙ (λ j. c.loop-i.invariant j ++ (sym c.get.ensures ∙ here ∙ c.index-changes-i.is) j ∷ [])
+    let here : cow_value c.at.result ≡ c.index-changes-i.result = sym c.deref.ensures ∙ c.same.ensures c.if-not-same.false in
+    take_more told i (cow_value c.at.result) lt'
+    ∙ (λ j. c.loop-i.invariant j ++ (sym c.at.ensures ∙ here ∙ c.index-changes-i.is) j ∷ [])
     ∙ sym (take_more cs i c.index-changes-i.result lt)
 
 pub returns : goal.returns
