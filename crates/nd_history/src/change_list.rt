@@ -23,7 +23,7 @@ impl<A: Allocator> Model for Changes<A> {
     ghost use Rattle.std.specs.Prelude.{List};
     ghost use Rattle.std.specs.Coded.{coded_list};
     ghost use Rattle.nd_history.specs.Changes.{changed_code};
-    ghost use Rattle.nd_history.specs.declared.told.Changed.{Changed as Item};
+    ghost use Rattle.nd_history.specs.declared.change_list.Changed.{Changed as Item};
 
     ghost Value = { List Item };
 
@@ -60,7 +60,7 @@ impl<A: Allocator> Changes<A> {
 
 /// What is listed of the changes in a range of positions (this project's own rule).
 #[derive(Drop)]
-pub struct Told<A: Allocator = Global> {
+pub struct ChangeList<A: Allocator = Global> {
     /// The first 1,000 changes, or all if there are no more.
     pub changes: Changes<A>,
     /// Whether there are more.

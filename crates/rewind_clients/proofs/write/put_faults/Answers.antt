@@ -3,10 +3,10 @@ use Rattle.std.proofs.lemmas.List.{take_all}
 use Rattle.std.proofs.lemmas.Result.{err_from_is_err_and}
 use Rattle.serde_json.specs.Data.{Data}
 use Rattle.rewind_clients.specs.Gathered.{Gathered, StopsIn}
-use Rattle.rewind_clients.specs.Told.{faults_data}
+use Rattle.rewind_clients.specs.Runs.{faults_data}
 use Rattle.rewind_clients.proofs.WrittenLemmas.{stops-more}
-use Rattle.rewind_clients.proofs.ToldLemmas.{faults-one, faults-step}
-use Rattle.rewind_clients.proofs.tell.put_faults.Goals as goal
+use Rattle.rewind_clients.proofs.RunsLemmas.{faults-one, faults-step}
+use Rattle.rewind_clients.proofs.write.put_faults.Goals as goal
 
 pub returns-in_err-put_fault-clause-err : goal.returns-in_err-put_fault-clause-err
 returns-in_err-put_fault-clause-err g c =

@@ -1,8 +1,8 @@
 use Rattle.std.proofs.Common.{[], map}
 use Rattle.std.proofs.lemmas.Result.{err_from_is_err_and}
-use Rattle.rewind_clients.specs.Told.{entry_data, faults_data}
+use Rattle.rewind_clients.specs.Runs.{entry_data, faults_data}
 use Rattle.rewind_clients.proofs.WrittenLemmas.{all-written, none-gathered, stops-more}
-use Rattle.rewind_clients.proofs.tell.tell_log.Goals as goal
+use Rattle.rewind_clients.proofs.write.write_log.Goals as goal
 
 pub returns-in_err-put_log-clause-err : goal.returns-in_err-put_log-clause-err
 returns-in_err-put_log-clause-err g c =

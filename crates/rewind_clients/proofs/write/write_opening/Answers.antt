@@ -4,8 +4,8 @@ use Rattle.std.proofs.lemmas.List.{append-nil}
 use Rattle.std.proofs.lemmas.Result.{err_from_is_err_and}
 use Rattle.rewind_clients.specs.Intakes.{version_replies}
 use Rattle.rewind_clients.proofs.WrittenLemmas.{all-written, none-gathered, stops-more}
-use Rattle.rewind_clients.proofs.ToldLemmas.{stops-put}
-use Rattle.rewind_clients.proofs.tell.tell_opening.Goals as goal
+use Rattle.rewind_clients.proofs.RunsLemmas.{stops-put}
+use Rattle.rewind_clients.proofs.write.write_opening.Goals as goal
 
 pub returns-in_err-put_version-clause-err : goal.returns-in_err-put_version-clause-err
 returns-in_err-put_version-clause-err g c =

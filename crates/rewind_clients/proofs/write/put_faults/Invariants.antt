@@ -1,8 +1,8 @@
 use Rattle.std.proofs.Common.{◌≡◌, ℕ, List, ◌++◌, false, take}
 use Rattle.serde_json.specs.Data.{Data}
 use Rattle.rewind_clients.specs.Gathered.{Gathered}
-use Rattle.rewind_clients.specs.Told.{faults_data}
-use Rattle.rewind_clients.proofs.tell.put_faults.Given as goal
+use Rattle.rewind_clients.specs.Runs.{faults_data}
+use Rattle.rewind_clients.proofs.write.put_faults.Given as goal
 
 abbrev pub invariant-loop-client : goal.invariant-loop-client
 invariant-loop-client g l = record {

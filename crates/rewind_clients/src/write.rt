@@ -7,7 +7,7 @@ ghost use Rattle.rewind_lines.specs.Texts.{text_of};
 ghost use Rattle.rewind_lines.specs.Faults.{is_write_fault};
 ghost use Rattle.rewind_clients.specs.Intakes.{version_replies};
 ghost use Rattle.rewind_clients.specs.Gathered.{Gathered, IsOfWriting, StopsIn};
-ghost use Rattle.rewind_clients.specs.Told.{entry_data, faults_data, lines_data};
+ghost use Rattle.rewind_clients.specs.Runs.{entry_data, faults_data, lines_data};
 
 use crate::gather::{flush, put};
 use nd_graph::Graph;
@@ -101,7 +101,11 @@ pub fn put_faults<T: Sink>(
 }
 
 /// Writes one reply.
-pub fn tell_one<T: Sink, V: Shown>(alloc: Global, sink: &mut T, reply: &V) -> Result<(), DebugFault>
+pub fn write_reply<T: Sink, V: Shown>(
+    alloc: Global,
+    sink: &mut T,
+    reply: &V,
+) -> Result<(), DebugFault>
     requires sound { T.failed sink.old ≡ false }
     ensures ok { OnOk result ((before : List ℕ) → T.contents sink.old ≡ Some before
         → T.contents sink.new ≡ Some (before ++ text_of (V.shown no_graph reply.now ∷ []))) }
@@ -142,7 +146,7 @@ fn put_version<T: Sink>(
 }
 
 /// Writes the reply to the version line, if there was one.
-pub fn tell_version<T: Sink>(
+pub fn write_version<T: Sink>(
     alloc: Global,
     sink: &mut T,
     opened: Option<Version>,
@@ -162,7 +166,7 @@ pub fn tell_version<T: Sink>(
 }
 
 /// Writes the reply to the version line, if there was one, and the graph's.
-pub fn tell_opening<T: Sink>(
+pub fn write_opening<T: Sink>(
     alloc: Global,
     sink: &mut T,
     opened: Option<Version>,
@@ -185,7 +189,7 @@ pub fn tell_opening<T: Sink>(
 }
 
 /// Writes the lines of a log, and of the clients' errors.
-pub fn tell_log<T: Sink>(
+pub fn write_log<T: Sink>(
     alloc: Global,
     sink: &mut T,
     graph: &Graph,

@@ -69,7 +69,7 @@ IsServed commands made (Some e) = (n : ℕ) × (n < length commands) × (made �
 
 -- The log and the errors that are reported: a legal log that begins with the script's machine and has the first commands of each
 -- client, in order; and no errors except Memory, and LogFull if the log is full.
-pub record Told (opening : MachineValue Global) (commands : Commands) (log : List (Receipt Global)) (machine : MachineValue Global) (faults : List Ended) : Type 0 where
+pub record IsRun (opening : MachineValue Global) (commands : Commands) (log : List (Receipt Global)) (machine : MachineValue Global) (faults : List Ended) : Type 0 where
   pub begins : machine.timeline.base ≡ opening.timeline.base
   pub history : IsHistory log machine
   pub clients : length faults ≡ length commands
@@ -88,9 +88,9 @@ abbrev pub lines_data : Dataflow → List (Receipt Global) → List Ended → Li
 lines_data g log faults = map (entry_data g) log ++ faults_data 0 faults
 
 -- the lines after the opening replies, if the machine began as `opening`
-pub record Tells (opening : MachineValue Global) (commands : Commands) (lines : List Data) : Type 0 where
+pub record AreLines (opening : MachineValue Global) (commands : Commands) (lines : List Data) : Type 0 where
   pub log : List (Receipt Global)
   pub machine : MachineValue Global
   pub faults : List Ended
-  pub told : Told opening commands log machine faults
+  pub told : IsRun opening commands log machine faults
   pub shown : lines ≡ lines_data (cluster_of machine.timeline).graph log faults

@@ -1,8 +1,8 @@
 use Rattle.std.proofs.Common.{[], refl}
 use Rattle.std.proofs.lemmas.Result.{err_from_is_err_and}
 use Rattle.rewind_clients.proofs.WrittenLemmas.{all-written, none-gathered}
-use Rattle.rewind_clients.proofs.ToldLemmas.{stops-put}
-use Rattle.rewind_clients.proofs.tell.tell_one.Goals as goal
+use Rattle.rewind_clients.proofs.RunsLemmas.{stops-put}
+use Rattle.rewind_clients.proofs.write.write_reply.Goals as goal
 
 pub returns-in_err-put-clause-err : goal.returns-in_err-put-clause-err
 returns-in_err-put-clause-err g c =

@@ -3,9 +3,9 @@ use Rattle.std.proofs.lemmas.List.{append-nil}
 use Rattle.std.proofs.lemmas.Result.{err_from_is_err_and}
 use Rattle.nd_time.specs.Code.{Code}
 use Rattle.rewind_clients.specs.Gathered.{Gathered}
-use Rattle.rewind_clients.specs.Told.{client_fault}
-use Rattle.rewind_clients.proofs.ToldLemmas.{stops-put}
-use Rattle.rewind_clients.proofs.tell.put_fault.Goals as goal
+use Rattle.rewind_clients.specs.Runs.{client_fault}
+use Rattle.rewind_clients.proofs.RunsLemmas.{stops-put}
+use Rattle.rewind_clients.proofs.write.put_fault.Goals as goal
 
 pub returns-in_err-put-clause-err : goal.returns-in_err-put-clause-err
 returns-in_err-put-clause-err g c =

@@ -1,8 +1,8 @@
 use Rattle.std.proofs.Common.{◌≡◌, ℕ, List, ◌++◌, false, map, take}
 use Rattle.serde_json.specs.Data.{Data}
 use Rattle.rewind_clients.specs.Gathered.{Gathered}
-use Rattle.rewind_clients.specs.Told.{entry_data}
-use Rattle.rewind_clients.proofs.tell.put_log.Given as goal
+use Rattle.rewind_clients.specs.Runs.{entry_data}
+use Rattle.rewind_clients.proofs.write.put_log.Given as goal
 
 abbrev pub invariant-loop-entry : goal.invariant-loop-entry
 invariant-loop-entry g l = record {

@@ -3,9 +3,9 @@ use Rattle.std.proofs.lemmas.List.{take_all}
 use Rattle.std.proofs.lemmas.Result.{err_from_is_err_and}
 use Rattle.serde_json.specs.Data.{Data}
 use Rattle.rewind_clients.specs.Gathered.{Gathered}
-use Rattle.rewind_clients.specs.Told.{entry_data}
-use Rattle.rewind_clients.proofs.ToldLemmas.{lines-of, map-one, map-rest, stops-put}
-use Rattle.rewind_clients.proofs.tell.put_log.Goals as goal
+use Rattle.rewind_clients.specs.Runs.{entry_data}
+use Rattle.rewind_clients.proofs.RunsLemmas.{lines-of, map-one, map-rest, stops-put}
+use Rattle.rewind_clients.proofs.write.put_log.Goals as goal
 
 pub returns-in_err-put-clause-err : goal.returns-in_err-put-clause-err
 returns-in_err-put-clause-err g c =

@@ -1,7 +1,7 @@
 use Rattle.std.proofs.Common.{[]}
 use Rattle.std.proofs.lemmas.Result.{err_from_is_err_and}
 use Rattle.rewind_clients.proofs.WrittenLemmas.{all-written, none-gathered}
-use Rattle.rewind_clients.proofs.tell.tell_version.Goals as goal
+use Rattle.rewind_clients.proofs.write.write_version.Goals as goal
 
 pub returns-in_err-put_version-clause-err : goal.returns-in_err-put_version-clause-err
 returns-in_err-put_version-clause-err g c =

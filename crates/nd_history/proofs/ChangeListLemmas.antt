@@ -8,10 +8,10 @@ use Rattle.std.proofs.lemmas.List.{append-nil, append_assoc, map-append, take_al
 use Rattle.std.proofs.lemmas.List.Elements.{filter-append}
 use Rattle.nd_time.specs.Limits.{max_told}
 use Rattle.nd_history.specs.Changes.{is_other, positions, changed, changes_between}
-use Rattle.nd_history.specs.Told.{IsTold}
+use Rattle.nd_history.specs.ChangeList.{AreFirstChanges}
 use Rattle.nd_history.specs.History.{AreChanges, none_yet, no_change, one_change, AreFirst, AreAll, IsHistory}
-use Rattle.nd_history.specs.declared.told.Changed.{Changed}
-use Rattle.nd_history.specs.declared.told.Told.{Told}
+use Rattle.nd_history.specs.declared.change_list.Changed.{Changed}
+use Rattle.nd_history.specs.declared.change_list.ChangeList.{ChangeList}
 
 -- a range of one number more
 one_more : (a n : ℕ) → range_with_len a (n + 1) ≡ range_with_len a n ++ (a + n) ∷ []
@@ -74,8 +74,8 @@ module _ (entry : ℕ → ℤ) (lo : ℕ) where
 
   -- ---- what is listed
 
-  module _ {A : Type 0} (hi : ℕ) (told : Told A) where
-    first_of : told.more ≡ true → AreFirst (λ i n. n ≡ entry i) lo hi told.changes → IsTold (changes_between entry lo hi) told
+  module _ {A : Type 0} (hi : ℕ) (told : ChangeList A) where
+    first_of : told.more ≡ true → AreFirst (λ i n. n ≡ entry i) lo hi told.changes → AreFirstChanges (changes_between entry lo hi) told
     first_of some first =
         let end : ℕ = first.end in
         let cs : List Changed = told.changes in
@@ -85,21 +85,21 @@ module _ (entry : ℕ → ℤ) (lo : ℕ) where
         let last : hi ≡ end + 1 + (hi - (end + 1)) = omega (arith, first.within) in
         let count : length cs ≡ max_told = first.count in
         let all : changes_between entry lo hi ≡ cs ++ (x ∷ rest.0) = ap (changes_between entry lo) last ∙ rest.1 ∙ ap (λ all. all ++ rest.0) h.1 ∙ append_assoc cs (x ∷ []) rest.0 in
-        subst (λ all. IsTold all told) (sym all) (record {
+        subst (λ all. AreFirstChanges all told) (sym all) (record {
           changes = sym (take-append-le max_told cs (x ∷ rest.0) (omega (arith, count)) ∙ take_all max_told cs (omega (arith, count)));
           more = (λ _. omega (arith, count, length-append cs (x ∷ rest.0)), λ _. some);
         })
 
-    all_are : told.more ≡ false → AreAll (λ i n. n ≡ entry i) lo hi told.changes → IsTold (changes_between entry lo hi) told
-    all_are none are = subst (λ all. IsTold all told) (sym (all_of are.all).1) (record {
+    all_are : told.more ≡ false → AreAll (λ i n. n ≡ entry i) lo hi told.changes → AreFirstChanges (changes_between entry lo hi) told
+    all_are none are = subst (λ all. AreFirstChanges all told) (sym (all_of are.all).1) (record {
       changes = sym (take_all max_told told.changes are.few);
       more = (λ some. absurd (let never : true ≡ false = sym some ∙ none in cc), λ lt. absurd (omega (arith, lt, are.few)));
     })
 
-    by : (b : Bool) → told.more ≡ b → MatchBool b (AreFirst (λ i n. n ≡ entry i) lo hi told.changes) (AreAll (λ i n. n ≡ entry i) lo hi told.changes) → IsTold (changes_between entry lo hi) told
+    by : (b : Bool) → told.more ≡ b → MatchBool b (AreFirst (λ i n. n ≡ entry i) lo hi told.changes) (AreAll (λ i n. n ≡ entry i) lo hi told.changes) → AreFirstChanges (changes_between entry lo hi) told
     by true = first_of
     by false = all_are
 
     -- the history of the entry is what is listed of its changes
-    pub told_of : IsHistory (λ i n. n ≡ entry i) lo hi told → IsTold (changes_between entry lo hi) told
+    pub told_of : IsHistory (λ i n. n ≡ entry i) lo hi told → AreFirstChanges (changes_between entry lo hi) told
     told_of = by told.more refl

@@ -17,7 +17,7 @@ use Rattle.nd_session.specs.declared.fault.SessionFault.{SessionFault}
 use Rattle.nd_session.specs.declared.shared.Shared.{Shared}
 use Rattle.nd_session.specs.Answered.{IsAnswered}
 use Rattle.nd_session.specs.Log.{IsStart, IsLegal, opening_of}
-use Rattle.nd_session.specs.Clients.{ClientValue, Holds, last_of, HoldsLast, IsAboveLast, IsOwn, IsHistory, IsKnown, IsUnknown, IsStranger, IsTold, IsSeen}
+use Rattle.nd_session.specs.Clients.{ClientValue, Holds, last_of, HoldsLast, IsAboveLast, IsOwn, IsHistory, IsKnown, IsUnknown, IsStranger, IsReceiptFor, IsSeen}
 use Rattle.nd_session.specs.declared.fault.SessionFault.TheVariants.{NotThisSession, LogFull, TooManyClients, Memory}
 use Rattle.nd_session.specs.Faults.{ApplyFails, CommandFails, CopyFails, CommandMayFail, CopyMayFail}
 use Rattle.nd_session.proofs.Logs.{slice_get-snoc}
@@ -103,7 +103,7 @@ module _ {A : Type 0} where
 
   -- the answer to a command
   pub told : (was new : Shared A) (p : ClientValue A) (command : Command A) (result : Result (Receipt A) (SessionFault A))
-      → IsHistory was.state.log was.state.machine → IfOk result (IsAnswered was new p command) → IfOk result (IsTold p command)
+      → IsHistory was.state.log was.state.machine → IfOk result (IsAnswered was new p command) → IfOk result (IsReceiptFor p command)
   told was new p command (Err e) history answered = tt
   told was new p command (Ok r) history answered =
       let log = was.state.log in

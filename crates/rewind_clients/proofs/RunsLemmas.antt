@@ -11,7 +11,7 @@ use Rattle.rewind_lines.specs.declared.fault.DebugFault.{DebugFault}
 use Rattle.rewind_lines.specs.declared.fault.DebugFault.TheVariants as fault
 use Rattle.rewind_clients.specs.Gathered.{Gathered, GatherFails, StopsIn}
 use Rattle.rewind_clients.specs.Written.{WroteFront, WroteLines}
-use Rattle.rewind_clients.specs.Told.{Ended, client_fault, faults_data}
+use Rattle.rewind_clients.specs.Runs.{Ended, client_fault, faults_data}
 
 -- the gathered replies that were written are complete lines
 pub lines-of : (xs ys all : List Data) (waiting before : List ℕ) (after : Known) → Gathered xs waiting before after → xs ++ ys ≡ all → WroteLines all before after
