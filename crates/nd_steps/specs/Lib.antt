@@ -11,7 +11,6 @@ pub mod Limits
 pub mod Turns
 pub mod Ordered
 pub mod Counted
-pub mod Listed
 pub mod Drafts
 pub mod Fed
 pub mod Told

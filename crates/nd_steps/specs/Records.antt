@@ -74,6 +74,12 @@ MakesBy s x (Sent p part) t = Sends s p part t
 MakesBy s x (Received from to change) t = Receives s from to change t
 MakesBy s x changes t = RunsTo s (keyed x changes) t
 
+-- the changes ds of a step are its changes cs, in the same order, and lead wherever these lead
+pub record StandFor {A : Type 0} (x : Step A) (cs ds : Changes A) : Type 0 where
+  pub same : keyed x ds ≡ keyed x cs
+  pub many : named_by x ds ≡ named_by x cs
+  pub makes : (s t : ClusterState) → MakesBy s x cs t → MakesBy s x ds t
+
 -- the changes of a record lead from s to t
 abbrev pub Makes : {A : Type 0} → ClusterState → Record A → ClusterState → Type 0
 Makes s r t = MakesBy s r.step r.changes t

@@ -1,7 +1,6 @@
 //! Records of steps: the changes of each.
 ghost use Rattle.std.specs.Prelude.{◌≡◌, IfOk};
-ghost use Rattle.nd_steps.specs.Records.{keyed, named, AreEqual, MakesWhat};
-ghost use Rattle.nd_steps.specs.Listed.{listed, TellsWhat};
+ghost use Rattle.nd_steps.specs.Records.{keyed, named, AreEqual, MakesWhat, StandFor};
 
 use crate::told::Told;
 use crate::{Change, FedAt, Flow};
@@ -84,7 +83,7 @@ impl<A: Allocator + Copy> Changes<A> {
 
     // Returns the same changes of a step, with a `FedAt` in place of a list if one stands for it.
     fn small(self, step: &Step<A>) -> Changes<A>
-        ensures { TellsWhat step.now self result }
+        ensures { StandFor step.now self result }
     {
         if let Changes::Each(list) = &self {
             if let Some(at) = FedAt::telling(step, list) {
@@ -148,7 +147,7 @@ impl<A: Allocator + Copy> Record<A> {
     /// place of a list for which it finds one.
     pub fn small(self) -> Record<A>
         ensures step { result.step ≡ self.step }
-        ensures listed { listed result ≡ listed self }
+        ensures changes { keyed result.step result.changes ≡ keyed self.step self.changes }
         ensures many { named result ≡ named self }
         ensures makes { MakesWhat self result }
     {
