@@ -10,7 +10,7 @@ use Rattle.nd_paths.specs.Laws.{IsMinimalAmong}
 use Rattle.nd_paths.specs.declared.point.Pointstamp.{Pointstamp}
 use Rattle.nd_delta.specs.Delta.{DeltaValue, at, entries, points_of, part, has_point, is_point, at-part}
 use Rattle.nd_delta.specs.Least.{place_of}
-use Rattle.nd_view.specs.View.{IsBefore, IsPositiveBefore, IsPrecursor, IsOnFrontier, IsPartWhere, IsCount, HasFrontierBefore, FrontierCovers}
+use Rattle.nd_view.specs.View.{IsBefore, IsPrecursor, IsOnFrontier, IsPartWhere, IsCount, HasFrontierBefore, FrontierCovers}
 use Rattle.nd_view.specs.declared.extent.Extent.{Extent}
 use Rattle.nd_view.specs.declared.extent.Extent.TheVariants.{AtOrBefore, StrictlyBefore}
 use Rattle.nd_view.specs.Kept.{Kept, IsKeptAt, IsFor, IsFrontierList}

@@ -1,5 +1,5 @@
 -- One point of a map gets another integer: how the numbers of precursors change.
-use Rattle.std.proofs.Common.{◌≡◌, ◌≢◌, ◌<◌, ◌≤◌, ◌+◌, ◌-◌, ℕ, zero, suc, ℤ, pos, Bool, true, false, cond, List, [], ◌∷◌, length, get_or, Option, Some, None, refl, sym, ap, subst, ◌∙◌, ◌⊎◌, inl, inr, arith, true≢false}
+use Rattle.std.proofs.Common.{◌≡◌, ◌≢◌, ◌<◌, ◌≤◌, ◌+◌, ◌-◌, ℕ, zero, suc, ℤ, pos, Bool, true, false, cond, List, [], ◌∷◌, length, Option, Some, None, refl, sym, ap, subst, ◌∙◌, ◌⊎◌, inl, inr, arith, true≢false}
 use Rattle.std.specs.Prelude.{◌<ℤ◌}
 use Rattle.std.specs.Ordering.{is_eq}
 use Rattle.std.proofs.lemmas.Cmp.{tied_itself}
@@ -7,13 +7,13 @@ use Rattle.std.specs.FinMap.{find, put}
 use Rattle.std.specs.FinMap.Entries.{find-put}
 use Rattle.std.proofs.lemmas.Map.Views.{tells_apart}
 use Rattle.nd_graph.specs.Graph.{Dataflow}
-use Rattle.nd_map.specs.Entries.{find-head, find-index}
+use Rattle.nd_map.specs.Entries.{find-head}
 use Rattle.nd_map.specs.Listed.{without}
 use Rattle.nd_map.specs.Maps.{find-without}
 use Rattle.nd_paths.specs.Order.{IsStrictlyBefore}
 use Rattle.nd_paths.specs.Point.{point_cmp, point_total, point_exact}
 use Rattle.nd_paths.specs.declared.point.Pointstamp.{Pointstamp}
-use Rattle.nd_delta.specs.Delta.{DeltaValue, at, set, size, entries, is_point, or_zero, at-set, at-set_same, set-set, set-at, size-set, at-entries, sorted-entries, some-entry}
+use Rattle.nd_delta.specs.Delta.{DeltaValue, at, set, size, entries, is_point, or_zero, at-set, at-set_same, set-set, set-at, size-set, at-entries, some-entry}
 use Rattle.nd_view.specs.View.{IsPrecursor, IsPartWhere, IsCount}
 use Rattle.nd_view.specs.Kept.{IsKeptAt, IsMovable, IsReady}
 use Rattle.nd_map.specs.Cases.{not_zero, zero_or_not}
