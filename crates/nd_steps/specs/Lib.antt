@@ -13,7 +13,7 @@ pub mod Ordered
 pub mod Counted
 pub mod Drafts
 pub mod Fed
-pub mod Told
+pub mod Keyed
 pub mod Onward
 pub mod Performers
 pub mod Targets

@@ -7,7 +7,7 @@ use Rattle.nd_protocol.specs.Exchange.{sent, received}
 use Rattle.nd_protocol.specs.Fitting.{IsState}
 use Rattle.nd_protocol.specs.declared.step.Step.{Step}
 use Rattle.nd_steps.specs.Changes.{IsRunnable, applied}
-use Rattle.nd_steps.specs.Flows.{told_changes}
+use Rattle.nd_steps.specs.Flows.{keyed_flow}
 use Rattle.nd_steps.specs.Fed.{fed_changes}
 use Rattle.nd_steps.specs.declared.change.Change.{Change}
 use Rattle.nd_steps.specs.declared.record.Changes.{Changes}
@@ -17,7 +17,7 @@ use Rattle.nd_steps.specs.declared.record.Record.{Record}
 -- the changes of a step at single keys, in the order in which they are applied; none of a broadcast or a receive
 abbrev pub keyed : {A : Type 0} → Step A → Changes A → List Change
 keyed x (Each changes) = changes.items
-keyed x (Flowed flow) = told_changes x flow
+keyed x (Flowed flow) = keyed_flow x flow
 keyed x (Fed at) = fed_changes x at
 keyed x (Sent p part) = []
 keyed x (Received from to change) = []

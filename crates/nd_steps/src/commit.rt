@@ -23,7 +23,7 @@ pub fn commit_record<A: Allocator + Copy>(
 {
     match &planned.changes {
         Changes::Each(_) | Changes::Flowed(_) | Changes::Fed(_) => {
-            make_all(parts, &planned.told())
+            make_all(parts, &planned.keyed())
         }
         Changes::Sent { p, part } => send(parts, *p as usize, part),
         Changes::Received { from, to, change } => {
@@ -43,7 +43,7 @@ pub fn undo_record<A: Allocator + Copy>(
     ensures err { OnErr result (parts.new ≡ parts.old) }
 {
     match &made.changes {
-        Changes::Each(_) | Changes::Flowed(_) | Changes::Fed(_) => undo_all(parts, &made.told()),
+        Changes::Each(_) | Changes::Flowed(_) | Changes::Fed(_) => undo_all(parts, &made.keyed()),
         Changes::Sent { p, part } => unsend(parts, *p as usize, part),
         Changes::Received { from, to, change } => {
             unreceive(alloc, parts, *from as usize, *to as usize, change)

@@ -4,7 +4,7 @@ ghost use Rattle.nd_steps.specs.Fed.{arrived as arrived_at, announced, moved, fe
 
 use crate::feed::moves;
 use crate::flow::MOST;
-use crate::told::Told;
+use crate::keyed::Keyed;
 use crate::{Change, Slot, record_at};
 use arrayvec::ArrayVec;
 use nd_processor::token_point;
@@ -121,7 +121,7 @@ impl FedAt {
     }
 
     // Returns the changes of a step, in order; none if the step is not a feed.
-    pub(crate) fn told<'a, A: Allocator>(&self, step: &'a Step<A>) -> Told<'a>
+    pub(crate) fn keyed<'a, A: Allocator>(&self, step: &'a Step<A>) -> Keyed<'a>
         ensures { result ≡ fed_changes step.now self.now }
     {
         match step {
@@ -132,22 +132,22 @@ impl FedAt {
                 ..
             } => {
                 let values = values.as_slice();
-                Told::fed(*self, values, self.moved(*p, *vertex, values.len()))
+                Keyed::fed(*self, values, self.moved(*p, *vertex, values.len()))
             }
-            Step::Take { .. } | Step::Notice { .. } | Step::Release { .. } => Told::whole(&[]),
-            Step::Send { .. } | Step::Broadcast { .. } | Step::Receive { .. } => Told::whole(&[]),
+            Step::Take { .. } | Step::Notice { .. } | Step::Release { .. } => Keyed::whole(&[]),
+            Step::Send { .. } | Step::Broadcast { .. } | Step::Receive { .. } => Keyed::whole(&[]),
         }
     }
 
     // Returns what stands for these changes of a step, or `None` if it finds nothing that does.
-    pub(crate) fn telling<A: Allocator>(step: &Step<A>, changes: &[Change]) -> Option<FedAt>
+    pub(crate) fn of<A: Allocator>(step: &Step<A>, changes: &[Change]) -> Option<FedAt>
         ensures { IfSome result (λ f. fed_changes step.now f ≡ changes.now) }
     {
         let Step::Feed { vertex, .. } = step else {
             return None;
         };
         let at = guessed(*vertex, changes);
-        if !at.told(step).is(changes) {
+        if !at.keyed(step).is(changes) {
             return None;
         }
         Some(at)

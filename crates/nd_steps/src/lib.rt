@@ -14,6 +14,7 @@ mod emit;
 mod fed_at;
 mod feed;
 mod flow;
+mod keyed;
 mod laws;
 mod making;
 mod onward;
@@ -27,7 +28,6 @@ mod record;
 mod release;
 mod run;
 mod slot;
-mod told;
 
 pub use broadcast::planned_part;
 pub use change::Change;

@@ -2,7 +2,7 @@
 ghost use Rattle.std.specs.Prelude.{◌≡◌, IfOk};
 ghost use Rattle.nd_steps.specs.Records.{keyed, named, AreEqual, MakesWhat, StandFor};
 
-use crate::told::Told;
+use crate::keyed::Keyed;
 use crate::{Change, FedAt, Flow};
 use nd_delta::Delta;
 use nd_protocol::Step;
@@ -48,7 +48,7 @@ impl<A: Allocator + Copy> Drop for Record<A> {
 // Copies changes.
 pub(crate) fn copied<A: Allocator + Copy>(
     alloc: A,
-    changes: &Told<'_>,
+    changes: &Keyed<'_>,
 ) -> Result<Vec<Change, A>, AllocError>
     ensures { IfOk result (λ v. v.items ≡ changes.now) }
 {
@@ -66,7 +66,7 @@ impl<A: Allocator + Copy> Changes<A> {
         ensures { IfOk result (AreEqual self.now) }
     {
         match self {
-            Changes::Each(changes) => { Ok(Changes::Each(copied(alloc, &Told::whole(changes))?)) }
+            Changes::Each(changes) => { Ok(Changes::Each(copied(alloc, &Keyed::whole(changes))?)) }
             Changes::Flowed(flow) => Ok(Changes::Flowed(*flow)),
             Changes::Fed(at) => Ok(Changes::Fed(*at)),
             Changes::Sent { p, part } => Ok(Changes::Sent {
@@ -86,7 +86,7 @@ impl<A: Allocator + Copy> Changes<A> {
         ensures { StandFor step.now self result }
     {
         if let Changes::Each(list) = &self {
-            if let Some(at) = FedAt::telling(step, list) {
+            if let Some(at) = FedAt::of(step, list) {
                 return Changes::Fed(at);
             }
         }
@@ -96,14 +96,14 @@ impl<A: Allocator + Copy> Changes<A> {
 
 impl<A: Allocator + Copy> Record<A> {
     // Returns the changes at single keys, in order; none of a broadcast or a receive.
-    pub(crate) fn told(&self) -> Told<'_>
+    pub(crate) fn keyed(&self) -> Keyed<'_>
         ensures { result ≡ keyed self.now.step self.now.changes }
     {
         match &self.changes {
-            Changes::Each(changes) => Told::whole(changes),
-            Changes::Flowed(flow) => flow.told(&self.step),
-            Changes::Fed(at) => at.told(&self.step),
-            Changes::Sent { .. } | Changes::Received { .. } => Told::whole(&[]),
+            Changes::Each(changes) => Keyed::whole(changes),
+            Changes::Flowed(flow) => flow.keyed(&self.step),
+            Changes::Fed(at) => at.keyed(&self.step),
+            Changes::Sent { .. } | Changes::Received { .. } => Keyed::whole(&[]),
         }
     }
 
@@ -113,7 +113,7 @@ impl<A: Allocator + Copy> Record<A> {
         ensures { result ≡ named self.now }
     {
         match &self.changes {
-            Changes::Each(_) | Changes::Flowed(_) | Changes::Fed(_) => self.told().len(),
+            Changes::Each(_) | Changes::Flowed(_) | Changes::Fed(_) => self.keyed().len(),
             Changes::Sent { p: _, part } => part.entries().len() + 1,
             Changes::Received {
                 from: _,

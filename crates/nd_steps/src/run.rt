@@ -3,8 +3,8 @@ ghost use Rattle.std.specs.Prelude.{◌≡◌, OnOk, OnErr};
 ghost use Rattle.nd_steps.specs.Changes.{at_key, inverse, made, applied, Fits, FindsNothing, IsRunnable};
 ghost use Rattle.nd_steps.specs.Records.{RunsTo, CameFrom, IsBackAt};
 
+use crate::keyed::Keyed;
 use crate::making::make_in;
-use crate::told::Told;
 use crate::{Change, Slot};
 use nd_protocol::Parts;
 use std::alloc::{AllocError, Allocator};
@@ -49,7 +49,7 @@ fn undo<A: Allocator + Copy>(parts: &mut Parts<A>, change: &Change) -> Result<()
 // removals.
 pub(crate) fn make_all<A: Allocator + Copy>(
     parts: &mut Parts<A>,
-    changes: &Told<'_>,
+    changes: &Keyed<'_>,
 ) -> Result<(), AllocError>
     requires { IsRunnable parts.old changes.now }
     ensures ok { OnOk result (parts.new ≡ applied parts.old changes.now) }
@@ -74,7 +74,7 @@ pub(crate) fn make_all<A: Allocator + Copy>(
 // Undoes changes, from the last to the first. If memory runs out midway, it redoes those that it has undone.
 pub(crate) fn undo_all<A: Allocator + Copy>(
     parts: &mut Parts<A>,
-    changes: &Told<'_>,
+    changes: &Keyed<'_>,
 ) -> Result<(), AllocError>
     requires { CameFrom (λ s. RunsTo s changes.now parts.old) }
     ensures ok { OnOk result (IsBackAt (λ s. RunsTo s changes.now parts.old) parts.new) }

@@ -1,5 +1,5 @@
 use Rattle.std.proofs.Common.{◌≡◌, take}
-use Rattle.nd_steps.proofs.told.Told.is.Given as goal
+use Rattle.nd_steps.proofs.keyed.Keyed.is.Given as goal
 
 -- the changes so far are equal
 abbrev pub invariant-loop-i : goal.invariant-loop-i

@@ -2,7 +2,7 @@ use Rattle.std.proofs.Common.{◌≡◌, ◌<◌, ◌≤◌, List, [], ◌∷◌
 use Rattle.std.proofs.lemmas.List.{take_all, take_more}
 use Rattle.std.specs.Cow.{cow_value}
 use Rattle.nd_steps.specs.declared.change.Change.{Change}
-use Rattle.nd_steps.proofs.told.Told.is.Goals as goal
+use Rattle.nd_steps.proofs.keyed.Keyed.is.Goals as goal
 
 pub loop-i-preserved : goal.loop-i-preserved
 loop-i-preserved c =

@@ -2,7 +2,7 @@
 ghost use Rattle.std.specs.Prelude.{◌≡◌, ◌<◌, ◌++◌, IsTrue, length, map, slice_index_or};
 ghost use Rattle.std.specs.Cow.{cow_value};
 ghost use Rattle.nd_steps.specs.Fed.{arrived};
-ghost use Rattle.nd_steps.specs.Told.{changes_in};
+ghost use Rattle.nd_steps.specs.Keyed.{changes_in};
 
 use crate::flow::MOST;
 use crate::{Change, FedAt};
@@ -19,16 +19,16 @@ pub(crate) enum Rest<'a> {
 
 /// Changes, in order: one for each value that arrives, and then the rest. No change of the rest is copied.
 #[derive(Drop)]
-pub(crate) struct Told<'a> {
+pub(crate) struct Keyed<'a> {
     at: FedAt,
     values: &'a [i64],
     rest: Rest<'a>,
 }
 
-impl<'a> Model for Told<'a> {
+impl<'a> Model for Keyed<'a> {
     ghost use Rattle.std.specs.Prelude.{List, ◌++◌, map};
     ghost use Rattle.nd_steps.specs.Fed.{arrived};
-    ghost use Rattle.nd_steps.specs.Told.{changes_in};
+    ghost use Rattle.nd_steps.specs.Keyed.{changes_in};
     ghost use Rattle.nd_steps.specs.declared.change.Change.{Change};
 
     ghost Value = { List Change };
@@ -48,27 +48,27 @@ impl<'a> Rest<'a> {
     }
 }
 
-impl<'a> Told<'a> {
+impl<'a> Keyed<'a> {
     // Returns the changes of a feed whose values arrive.
-    pub(crate) fn fed(at: FedAt, values: &'a [i64], rest: ArrayVec<Change, MOST>) -> Told<'a>
+    pub(crate) fn fed(at: FedAt, values: &'a [i64], rest: ArrayVec<Change, MOST>) -> Keyed<'a>
         ensures { result ≡ map (arrived at) values.now ++ rest.items }
     {
         let rest = Rest::Few(rest);
-        Told { at, values, rest }
+        Keyed { at, values, rest }
     }
 
     // Returns a few changes.
-    pub(crate) fn few(changes: ArrayVec<Change, MOST>) -> Told<'a>
+    pub(crate) fn few(changes: ArrayVec<Change, MOST>) -> Keyed<'a>
         ensures { result ≡ changes.items }
     {
-        Told::fed(FedAt::default(), &[], changes)
+        Keyed::fed(FedAt::default(), &[], changes)
     }
 
     // Returns the changes of a list.
-    pub(crate) fn whole(changes: &'a [Change]) -> Told<'a>
+    pub(crate) fn whole(changes: &'a [Change]) -> Keyed<'a>
         ensures { result ≡ changes.now }
     {
-        Told {
+        Keyed {
             at: FedAt::default(),
             values: &[],
             rest: Rest::Many(changes),
