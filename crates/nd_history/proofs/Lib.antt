@@ -11,4 +11,4 @@ pub mod Totals
 pub mod WalkLemmas
 pub mod ChangeListLemmas
 pub mod TurnsLemmas
-pub mod EffectedLemmas
+pub mod EffectsLemmas

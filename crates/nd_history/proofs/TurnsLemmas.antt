@@ -11,7 +11,7 @@ use Rattle.nd_history.proofs.WalkLemmas.{no_hit_more}
 use Rattle.nd_history.specs.History.{ShowsIf, AreChanges, none_yet, no_change, one_change, AreFirst, AreAll, IsHistory}
 use Rattle.nd_history.specs.declared.change_list.Changed.{Changed}
 use Rattle.nd_history.specs.declared.change_list.ChangeList.{ChangeList}
-use Rattle.nd_history.specs.declared.turned.Turns.{Turns}
+use Rattle.nd_history.specs.declared.turn_list.Turns.{Turns}
 
 abbrev pub positions_of : List Changed → List ℕ
 positions_of cs = map (λ c. c.position) cs

@@ -11,4 +11,4 @@ pub mod ChangeList
 pub mod History
 pub mod ViewChanges
 pub mod Turns
-pub mod Effected
+pub mod Effects

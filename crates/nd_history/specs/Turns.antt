@@ -3,7 +3,7 @@
 use Rattle.std.specs.Prelude.{◌≡◌, ◌↔◌, ℕ, ◌-◌, ◌<◌, ◌≤◌, ◌⊎◌, List, length, slice_get, Contains, AllPairs, Option, Some, cond, IsTrue, MatchBool}
 use Rattle.nd_time.specs.Limits.{max_told}
 use Rattle.nd_timeline.specs.Timeline.{TimelineValue}
-use Rattle.nd_history.specs.declared.turned.Turns.{Turns}
+use Rattle.nd_history.specs.declared.turn_list.Turns.{Turns}
 use Rattle.nd_history.specs.declared.fault.TurnsFault.{TurnsFault}
 use Rattle.nd_history.specs.declared.fault.TurnsFault.TheVariants.{BadRange, NoSuchPoint, Memory}
 

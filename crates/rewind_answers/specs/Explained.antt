@@ -19,13 +19,13 @@ use Rattle.nd_steps.specs.Effect.{lists_of}
 use Rattle.nd_history.specs.ChangeList.{AreFirstChanges}
 use Rattle.nd_history.specs.ViewChanges.{changes_of, CanList, CannotList}
 use Rattle.nd_history.specs.Faults.{code_of_changes, code_of_turns}
-use Rattle.nd_history.specs.Effected.{IsEffect, HasNoEffect, IsLedTo, code_of_effect}
+use Rattle.nd_history.specs.Effects.{IsEffect, HasNoEffect, IsLedTo, code_of_effect}
 use Rattle.nd_history.specs.Least.{HoldsAt}
 use Rattle.nd_history.specs.Turns.{AreListed, MayTurn, CannotTurn}
-use Rattle.nd_history.specs.declared.effected.StepEffect.{StepEffect}
-use Rattle.nd_history.specs.declared.effected.EffectFault.{EffectFault}
-use Rattle.nd_history.specs.declared.effected.EffectFault.TheVariants as effects
-use Rattle.nd_history.specs.declared.turned.Turns.{Turns}
+use Rattle.nd_history.specs.declared.effects.StepEffect.{StepEffect}
+use Rattle.nd_history.specs.declared.effects.EffectFault.{EffectFault}
+use Rattle.nd_history.specs.declared.effects.EffectFault.TheVariants as effects
+use Rattle.nd_history.specs.declared.turn_list.Turns.{Turns}
 use Rattle.nd_history.specs.declared.fault.TurnsFault.{TurnsFault}
 use Rattle.nd_history.specs.declared.fault.TurnsFault.TheVariants as turned
 use Rattle.nd_history.specs.declared.change_list.ChangeList.{ChangeList}

@@ -2,7 +2,7 @@ use Rattle.std.proofs.Common.{◌≡◌, ◌↔◌, ℕ, cond, Some, slice_get, 
 use Rattle.nd_breaks.specs.Conditions.{Holds}
 use Rattle.nd_history.specs.Least.{HoldsAt, IsLeast}
 use Rattle.nd_history.specs.History.{ShowsIf, IsHistory}
-use Rattle.nd_history.specs.declared.turned.Turns.{Turns}
+use Rattle.nd_history.specs.declared.turn_list.Turns.{Turns}
 use Rattle.nd_history.proofs.TurnsLemmas.{positions_of, listed_of, least_of}
 use Rattle.nd_history.proofs.WalkLemmas.{at_position}
 use Rattle.nd_history.proofs.condition_history.turns.Goals as goal

@@ -1,5 +1,5 @@
 use Rattle.std.proofs.Common.{◌≡◌, ◌≤◌, length, map, vec_capacity}
-use Rattle.nd_history.proofs.searching.claims.Given as goal
+use Rattle.nd_history.proofs.searches.claims.Given as goal
 
 abbrev pub invariant-loop-searched : goal.invariant-loop-searched
 invariant-loop-searched g l = record {

@@ -1,7 +1,7 @@
 use Rattle.std.proofs.Common.{◌≡◌, ◌+◌, ◌-◌, Some, sym, ap, ◌∙◌, arith}
 use Rattle.nd_steps.specs.Effect.{lists_of, altered_count}
-use Rattle.nd_history.proofs.EffectedLemmas.{effect_there, count_there}
-use Rattle.nd_history.proofs.effected.effect.Goals as goal
+use Rattle.nd_history.proofs.EffectsLemmas.{effect_there, count_there}
+use Rattle.nd_history.proofs.effects.effect.Goals as goal
 
 pub returns-clause-effect : goal.returns-clause-effect
 returns-clause-effect g c =

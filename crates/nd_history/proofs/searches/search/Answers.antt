@@ -2,7 +2,7 @@ use Rattle.std.proofs.Common.{length, IfOk, IfErr, OnOk, subst}
 use Rattle.nd_timeline.specs.Timeline.{TimelineValue}
 use Rattle.nd_history.specs.Least.{HoldsAt, IsLeast}
 use Rattle.nd_history.specs.Answers.{MaySearch, SearchFails}
-use Rattle.nd_history.proofs.searching.search.Goals as goal
+use Rattle.nd_history.proofs.searches.search.Goals as goal
 
 pub returns-clause-found : goal.returns-clause-found
 returns-clause-found g c =

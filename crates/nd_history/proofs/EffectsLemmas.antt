@@ -7,7 +7,7 @@ use Rattle.nd_steps.specs.Effect.{EffectValue, effect_of}
 use Rattle.nd_steps.specs.declared.record.Record.{Record}
 use Rattle.nd_cluster.specs.Records.{Leads}
 use Rattle.nd_timeline.specs.Timeline.{TimelineValue, cluster_of, moved_to}
-use Rattle.nd_history.specs.Effected.{cluster_at}
+use Rattle.nd_history.specs.Effects.{cluster_at}
 
 module _ {A : Type 0} (m : TimelineValue A) (i before at : ℕ) (r : Record A) (w : ClusterState) (some : before + 1 ≡ i)
     (leads : Leads r (cluster_at m before) (cluster_at m (before + 1))) (stands : w ≡ cluster_of (moved_to m at)) (there : at ≡ before) where

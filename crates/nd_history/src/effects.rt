@@ -1,6 +1,6 @@
 //! What a kept step changed.
 ghost use Rattle.std.specs.Prelude.{◌≡◌, IfErr, IfOk, OnOk};
-ghost use Rattle.nd_history.specs.Effected.{IsLedTo, IsEffect, HasNoEffect, code_of_effect};
+ghost use Rattle.nd_history.specs.Effects.{IsLedTo, IsEffect, HasNoEffect, code_of_effect};
 
 use crate::history::walk_at;
 use nd_cluster::Effect;
@@ -35,7 +35,7 @@ pub enum EffectFault {
 
 impl From<AllocError> for EffectFault {
     ghost use Rattle.std.specs.Prelude.{◌≡◌};
-    ghost use Rattle.nd_history.specs.declared.effected.EffectFault.TheVariants.{Memory};
+    ghost use Rattle.nd_history.specs.declared.effects.EffectFault.TheVariants.{Memory};
 
     ghost from_gives = { λ _ r. r ≡ Memory };
 

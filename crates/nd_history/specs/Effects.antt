@@ -9,9 +9,9 @@ use Rattle.nd_steps.specs.Effect.{lists_of, effect_of, altered_count}
 use Rattle.nd_timeline.specs.Timeline.{TimelineValue, cluster_of, moved_to}
 use Rattle.nd_timeline.specs.Faults as faults
 use Rattle.nd_timeline.specs.declared.fault.Fault.TheVariants as fault
-use Rattle.nd_history.specs.declared.effected.StepEffect.{StepEffect}
-use Rattle.nd_history.specs.declared.effected.EffectFault.{EffectFault}
-use Rattle.nd_history.specs.declared.effected.EffectFault.TheVariants.{NoSuchPoint, Memory}
+use Rattle.nd_history.specs.declared.effects.StepEffect.{StepEffect}
+use Rattle.nd_history.specs.declared.effects.EffectFault.{EffectFault}
+use Rattle.nd_history.specs.declared.effects.EffectFault.TheVariants.{NoSuchPoint, Memory}
 
 -- a kept step leads to the position
 pub record IsLedTo {A : Type 0} (m : TimelineValue A) (i : ℕ) : Type 0 where

@@ -1,7 +1,7 @@
 use Rattle.std.proofs.Common.{◌∙◌}
 use Rattle.nd_history.specs.Least.{HoldsAt}
 use Rattle.nd_history.proofs.AnswersLemmas.{IsSurvey, survey, is_least, answer_called, fault_called, gap}
-use Rattle.nd_history.proofs.searching.search_in.Goals as goal
+use Rattle.nd_history.proofs.searches.search_in.Goals as goal
 
 -- what the workers found, in a table with an answer
 answered : (g : _) (c : goal.After-drop-works-in-Ok-1 g) → IsSurvey (HoldsAt c.args.timeline.now c.args.condition.now) (g.G.Gate.called c.args.gate.now) c.args.lo c.args.hi c.args.workers c.in_ok-works.works.items c.as_slice-2.result.now
