@@ -28,7 +28,7 @@ pub use cluster::Cluster;
 pub use moves::Allowed;
 pub use nd_paths::ArrivalTime;
 pub use nd_protocol::{Next, NoMemory, Part, Points, Refusal, Step, Values};
-pub use nd_steps::{Altered, Change, Changes, Effect, Entries, Entry, ItemAt, Record, Slot};
+pub use nd_steps::{Altered, Change, Changes, Effect, ItemAt, Record, Slot};
 pub use nd_view::Extent;
 pub use nd_why::{Held, Question, Reason, Reasons, Unheard};
 pub use saved::Saved;

@@ -7,7 +7,7 @@ use crate::refused::{Heap, many};
 use nd_cluster::{Cluster, Next};
 use nd_delta::Delta;
 use nd_examples::{
-    DISTINCT, LINE, Told, change, graph_of, item, len, move_token, paths_of, point, pop, push,
+    DISTINCT, LINE, StepLine, change, graph_of, item, len, move_token, paths_of, point, pop, push,
     reach, set, set_item, step_of, time, unpush, values_of, view,
 };
 use nd_graph::{Graph, Op};
@@ -233,10 +233,10 @@ fn calls_that_take_none(rt: HostRuntime) {
 }
 
 /// A line that is fed, taken from and broadcast.
-static STEPS: [Told; 3] = [
-    Told::Feed(0, "a", &[5, 7], Next::Close),
-    Told::Take(0, "az", &[0], 7),
-    Told::All(0),
+static STEPS: [StepLine; 3] = [
+    StepLine::Feed(0, "a", &[5, 7], Next::Close),
+    StepLine::Take(0, "az", &[0], 7),
+    StepLine::All(0),
 ];
 
 /// Returns whether a cluster reports what there is after these steps.
@@ -263,7 +263,7 @@ fn tells<A: Allocator + Copy>(cluster: &Cluster<A>) -> Option<bool> {
 /// entries.
 fn reads<A: Allocator + Copy>(heap: &Heap, json: Global, alloc: A) -> Option<bool> {
     let cluster = reach(json, alloc, LINE, 1, &STEPS)?;
-    let step = step_of(alloc, cluster.graph(), &Told::Receive(0, 0))?;
+    let step = step_of(alloc, cluster.graph(), &StepLine::Receive(0, 0))?;
     let record = cluster.plan(&step).ok()?;
     let entries = unasked!(heap: record.entries());
     Some(unasked!(heap: tells(&cluster)?) && entries > 0)

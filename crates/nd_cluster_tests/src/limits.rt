@@ -5,7 +5,7 @@ ghost use Rattle.nd_view.specs.Kept.{IsFor};
 
 use crate::refused::Heap;
 use nd_cluster::{Cluster, Next};
-use nd_examples::{HELD, LINE, LOOP, Sent, TRACED, Told, graph_of, is_state, point, step_of};
+use nd_examples::{HELD, LINE, LOOP, Sent, StepLine, TRACED, graph_of, is_state, point, step_of};
 use nd_graph::Graph;
 use nd_mesh::Mesh;
 use nd_paths::Paths;
@@ -42,7 +42,7 @@ static FEEDS: [Feed; 11] = [
 ];
 
 /// The epochs of requests of a vertex, what is unsent there at two epochs, a step there, and the number of its refusal.
-type AtVertex = (&'static [u32], [(u32, i64); 2], Told, u64);
+type AtVertex = (&'static [u32], [(u32, i64); 2], StepLine, u64);
 
 /// The same of a time that is not later. Nothing is added at the same time, or at a time with a request.
 static AT_HOLD: [AtVertex; 11] = [
@@ -56,7 +56,12 @@ static AT_HOLD: [AtVertex; 11] = [
     (&[3], [(3, 1 - MOST), (4, MOST - 1)], MOVED, 0),
     (&[3], [(3, -MOST), (9, 0)], NOTICED, 14),
     (&[3], [(3, 1 - MOST), (9, 0)], NOTICED, 53),
-    (&[3], [(4, MOST), (9, 0)], Told::Keep(0, "h", &[3], &[4]), 9),
+    (
+        &[3],
+        [(4, MOST), (9, 0)],
+        StepLine::Keep(0, "h", &[3], &[4]),
+        9,
+    ),
 ];
 
 /// The same at an opaque vertex, of capabilities that are kept. Nothing is taken away.
@@ -67,18 +72,18 @@ static AT_OPAQUE: [AtVertex; 5] = [
     (
         &[3],
         [(2, MOST), (9, 0)],
-        Told::Keep(0, "x", &[3], &[2]),
+        StepLine::Keep(0, "x", &[3], &[2]),
         14,
     ),
     (
         &[3],
         [(3, MOST), (9, 0)],
-        Told::Keep(0, "x", &[3], &[3]),
+        StepLine::Keep(0, "x", &[3], &[3]),
         54,
     ),
 ];
 
-const KEPT: Told = Told::Keep(0, "x", &[3], &[4]);
+const KEPT: StepLine = StepLine::Keep(0, "x", &[3], &[4]);
 
 /// An epoch, how many records of 5 are on xy and what is unsent there at that epoch, the time and the port of the 5 that x
 /// sends, which holds a capability at epoch 3, and the number of the refusal.
@@ -96,15 +101,15 @@ static SENDS: [Sending; 8] = [
     (4, FULL, MOST, Some(&[5]), 0, 0),
 ];
 
-const DROPPED: Told = Told::Release(0, "h", &[3], None);
+const DROPPED: StepLine = StepLine::Release(0, "h", &[3], None);
 
-const MOVED: Told = Told::Release(0, "h", &[3], Some(&[4]));
+const MOVED: StepLine = StepLine::Release(0, "h", &[3], Some(&[4]));
 
-const MOVED_BACK: Told = Told::Release(0, "h", &[3], Some(&[2]));
+const MOVED_BACK: StepLine = StepLine::Release(0, "h", &[3], Some(&[2]));
 
-const UNMOVED: Told = Told::Release(0, "h", &[3], Some(&[3]));
+const UNMOVED: StepLine = StepLine::Release(0, "h", &[3], Some(&[3]));
 
-const NOTICED: Told = Told::Notice(0, "h", &[3]);
+const NOTICED: StepLine = StepLine::Notice(0, "h", &[3]);
 
 /// Adds records of 5 at a point.
 fn add_records<A: Allocator + Copy>(
@@ -239,7 +244,11 @@ fn cluster_of<A: Allocator + Copy>(
 }
 
 /// Returns the number of the refusal of a step, 0 if it is executed.
-fn number_of<A: Allocator + Copy>(alloc: A, cluster: &mut Cluster<A>, told: &Told) -> Option<u64> {
+fn number_of<A: Allocator + Copy>(
+    alloc: A,
+    cluster: &mut Cluster<A>,
+    told: &StepLine,
+) -> Option<u64> {
     let step = step_of(alloc, cluster.graph(), told)?;
     match cluster.plan(&step) {
         Ok(record) => {
@@ -259,7 +268,7 @@ fn of_feed<A: Allocator + Copy>(
 ) -> Option<(u64, bool)> {
     let graph = graph_of(json, alloc, LINE)?;
     let mut cluster = cluster_of(heap, alloc, &graph, before_feed(alloc, &graph, row)?)?;
-    let number = number_of(alloc, &mut cluster, &Told::Feed(0, "a", row.3, row.4))?;
+    let number = number_of(alloc, &mut cluster, &StepLine::Feed(0, "a", row.3, row.4))?;
     let closed =
         "{\"processors\":[{\"items\":[],\"records\":[],\"requests\":[],\"sinks\":[],\"tokens\":[],\
          \"unsent\":[[\"a\",[4294967295],-1]],\"view\":[]}],\"queues\":[[[]]]}";
@@ -291,7 +300,7 @@ fn of_send<A: Allocator + Copy>(heap: &Heap, json: Global, alloc: A, row: &Sendi
         values: &[5],
         dest: None,
     };
-    number_of(alloc, &mut cluster, &Told::Send(0, "x", sent))
+    number_of(alloc, &mut cluster, &StepLine::Send(0, "x", sent))
 }
 
 /// Returns the number of the refusal of a record that goes around once more at the last counter.
@@ -300,7 +309,11 @@ fn of_round<A: Allocator + Copy>(heap: &Heap, json: Global, alloc: A) -> Option<
     let mut processor = Processor::start(alloc, &graph).ok()?;
     add_records(&mut processor, &graph, "sf", &[0, u32::MAX], 1)?;
     let mut cluster = cluster_of(heap, alloc, &graph, processor)?;
-    number_of(alloc, &mut cluster, &Told::Take(0, "sf", &[0, u32::MAX], 5))
+    number_of(
+        alloc,
+        &mut cluster,
+        &StepLine::Take(0, "sf", &[0, u32::MAX], 5),
+    )
 }
 
 /// Checks the worked example *number-limits*, and the limits of feeds to an epoch, releases, notices and sends.

@@ -5,8 +5,8 @@ use crate::copies::go;
 use crate::refused::Heap;
 use nd_cluster::{Allowed, Cluster, Extent, Next, Question, Step};
 use nd_examples::{
-    HELD, HELD_MOVED, LINE, LOOP, SUM_NOTIFIED, Script, Sent, TRACED, Told, point, processors_of,
-    start, step_of, values_of,
+    HELD, HELD_MOVED, LINE, LOOP, SUM_NOTIFIED, Script, Sent, StepLine, TRACED, point,
+    processors_of, start, step_of, values_of,
 };
 use nd_testing::{Refusing, in_turn};
 use std::alloc::{Allocator, Global};
@@ -21,31 +21,31 @@ static RUNS: [Script; 9] = [
         LINE,
         2,
         &[
-            Told::Feed(1, "a", &[5, 7, 5, 8], Next::Next),
-            Told::All(1),
-            Told::Feed(0, "a", &[5, 4, 5], Next::Next),
+            StepLine::Feed(1, "a", &[5, 7, 5, 8], Next::Next),
+            StepLine::All(1),
+            StepLine::Feed(0, "a", &[5, 4, 5], Next::Next),
         ],
     ),
-    (LINE, 1, &[Told::Feed(0, "a", &[5], Next::Stay)]),
+    (LINE, 1, &[StepLine::Feed(0, "a", &[5], Next::Stay)]),
     SUM_NOTIFIED,
     (
         LOOP,
         1,
         &[
-            Told::Feed(0, "a", &[1], Next::Next),
-            Told::Take(0, "ai", &[0], 1),
-            Told::Take(0, "im", &[0, 0], 1),
-            Told::Take(0, "ms", &[0, 0], 2),
+            StepLine::Feed(0, "a", &[1], Next::Next),
+            StepLine::Take(0, "ai", &[0], 1),
+            StepLine::Take(0, "im", &[0, 0], 1),
+            StepLine::Take(0, "ms", &[0, 0], 2),
         ],
     ),
     (
         LINE,
         2,
         &[
-            Told::Feed(0, "a", &[5], Next::Next),
-            Told::Points(0, &[("az", &[0]), ("az", &[0])]),
-            Told::All(0),
-            Told::Receive(0, 1),
+            StepLine::Feed(0, "a", &[5], Next::Next),
+            StepLine::Points(0, &[("az", &[0]), ("az", &[0])]),
+            StepLine::All(0),
+            StepLine::Receive(0, 1),
         ],
     ),
     HELD_MOVED,
@@ -53,21 +53,21 @@ static RUNS: [Script; 9] = [
         HELD,
         1,
         &[
-            Told::Feed(0, "a", &[7], Next::Close),
-            Told::Take(0, "ah", &[0], 7),
-            Told::Take(0, "hz", &[0], 7),
-            Told::All(0),
-            Told::Receive(0, 0),
-            Told::Release(0, "h", &[0], None),
+            StepLine::Feed(0, "a", &[7], Next::Close),
+            StepLine::Take(0, "ah", &[0], 7),
+            StepLine::Take(0, "hz", &[0], 7),
+            StepLine::All(0),
+            StepLine::Receive(0, 0),
+            StepLine::Release(0, "h", &[0], None),
         ],
     ),
     (
         TRACED,
         1,
         &[
-            Told::Feed(0, "a", &[7], Next::Close),
-            Told::Take(0, "ax", &[0], 7),
-            Told::Send(
+            StepLine::Feed(0, "a", &[7], Next::Close),
+            StepLine::Take(0, "ax", &[0], 7),
+            StepLine::Send(
                 0,
                 "x",
                 Sent {
@@ -78,15 +78,15 @@ static RUNS: [Script; 9] = [
                     dest: Some(0),
                 },
             ),
-            Told::Points(0, &[("a", &[0]), ("x", &[0])]),
-            Told::Keep(0, "x", &[0], &[3]),
+            StepLine::Points(0, &[("a", &[0]), ("x", &[0])]),
+            StepLine::Keep(0, "x", &[0], &[3]),
         ],
     ),
     (
         SOURCE,
         2,
         &[
-            Told::Send(
+            StepLine::Send(
                 0,
                 "x",
                 Sent {
@@ -97,10 +97,10 @@ static RUNS: [Script; 9] = [
                     dest: Some(1),
                 },
             ),
-            Told::Take(1, "xz", &[0], 5),
-            Told::Release(0, "x", &[0], None),
-            Told::All(0),
-            Told::Receive(0, 1),
+            StepLine::Take(1, "xz", &[0], 5),
+            StepLine::Release(0, "x", &[0], None),
+            StepLine::All(0),
+            StepLine::Receive(0, 1),
         ],
     ),
 ];

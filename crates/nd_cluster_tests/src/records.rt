@@ -2,7 +2,9 @@
 //! processors a cluster may have.
 
 use nd_cluster::{Changes, Cluster, Next, Record, StartFault, Step};
-use nd_examples::{ADD, EXCHANGE, LINE, LOOP, SUM, Sent, TRACED, Told, graph_of, reach, step_of};
+use nd_examples::{
+    ADD, EXCHANGE, LINE, LOOP, SUM, Sent, StepLine, TRACED, graph_of, reach, step_of,
+};
 use std::alloc::Global;
 use std::mem::size_of;
 
@@ -25,45 +27,45 @@ fn records_are_small(rt: HostRuntime) {
     assert!(rt; size_of::<Step>() == 64);
 }
 
-const TWO_FED: &[Told] = &[Told::Feed(0, "a", &[7, 7], Next::Close)];
+const TWO_FED: &[StepLine] = &[StepLine::Feed(0, "a", &[7, 7], Next::Close)];
 
 /// The steps of *views-lag*.
-const LAG: &[Told] = &[
-    Told::Feed(0, "a", &[5], Next::Close),
-    Told::Take(2, "az", &[0], 5),
-    Told::All(2),
-    Told::Receive(2, 1),
-    Told::All(0),
+const LAG: &[StepLine] = &[
+    StepLine::Feed(0, "a", &[5], Next::Close),
+    StepLine::Take(2, "az", &[0], 5),
+    StepLine::All(2),
+    StepLine::Receive(2, 1),
+    StepLine::All(0),
 ];
 
-const FED: Told = Told::Feed(0, "a", &[2], Next::Close);
+const FED: StepLine = StepLine::Feed(0, "a", &[2], Next::Close);
 
-const SUNK: &[Told] = &[FED, Told::Take(0, "az", &[0], 2)];
+const SUNK: &[StepLine] = &[FED, StepLine::Take(0, "az", &[0], 2)];
 
-const ADDED: &[Told] = &[FED, Told::Take(0, "am", &[0], 2)];
+const ADDED: &[StepLine] = &[FED, StepLine::Take(0, "am", &[0], 2)];
 
-const SUMMED: &[Told] = &[FED, Told::Take(0, "as", &[0], 2)];
+const SUMMED: &[StepLine] = &[FED, StepLine::Take(0, "as", &[0], 2)];
 
-const SENT: &[Told] = &[FED, Told::All(0)];
+const SENT: &[StepLine] = &[FED, StepLine::All(0)];
 
 /// Steps of *loop*: records enter, leave, and go around.
-const AROUND: &[Told] = &[
-    Told::Feed(0, "a", &[1, 2], Next::Close),
-    Told::Take(0, "ai", &[0], 1),
-    Told::Take(0, "ai", &[0], 2),
-    Told::Take(0, "im", &[0, 0], 1),
-    Told::Take(0, "im", &[0, 0], 2),
-    Told::Take(0, "ms", &[0, 0], 2),
-    Told::Take(0, "ms", &[0, 0], 3),
-    Told::Take(0, "se", &[0, 0], 3),
-    Told::Take(0, "sf", &[0, 0], 2),
+const AROUND: &[StepLine] = &[
+    StepLine::Feed(0, "a", &[1, 2], Next::Close),
+    StepLine::Take(0, "ai", &[0], 1),
+    StepLine::Take(0, "ai", &[0], 2),
+    StepLine::Take(0, "im", &[0, 0], 1),
+    StepLine::Take(0, "im", &[0, 0], 2),
+    StepLine::Take(0, "ms", &[0, 0], 2),
+    StepLine::Take(0, "ms", &[0, 0], 3),
+    StepLine::Take(0, "se", &[0, 0], 3),
+    StepLine::Take(0, "sf", &[0, 0], 2),
 ];
 
 /// A send of two values, and a release that keeps the capability.
-const FOLLOWED: &[Told] = &[
+const FOLLOWED: &[StepLine] = &[
     FED,
-    Told::Take(0, "ax", &[0], 2),
-    Told::Send(
+    StepLine::Take(0, "ax", &[0], 2),
+    StepLine::Send(
         0,
         "x",
         Sent {
@@ -74,12 +76,12 @@ const FOLLOWED: &[Told] = &[
             dest: None,
         },
     ),
-    Told::Keep(0, "x", &[0], &[3]),
+    StepLine::Keep(0, "x", &[0], &[3]),
 ];
 
 /// A graph, how many processors there are, steps and how many of them are executed, how many entries the record of
 /// the last of these has, and whether the record keeps a flow in place of a list.
-type Row = (&'static str, u32, &'static [Told], usize, usize, bool);
+type Row = (&'static str, u32, &'static [StepLine], usize, usize, bool);
 
 static ROWS: [Row; 12] = [
     (LINE, 1, TWO_FED, 1, 4, false),
@@ -131,9 +133,13 @@ static FEEDS: [(&'static [i64], Next, bool); 10] = [
 
 /// Returns whether the small record of a feed of *line*, after another, has no list.
 fn keeps_no_list(alloc: Global, before: Next, values: &'static [i64], next: Next) -> Option<bool> {
-    let before = [Told::Feed(0, "a", &[7], before)];
+    let before = [StepLine::Feed(0, "a", &[7], before)];
     let cluster = reach(alloc, alloc, LINE, 1, &before)?;
-    let step = step_of(alloc, cluster.graph(), &Told::Feed(0, "a", values, next))?;
+    let step = step_of(
+        alloc,
+        cluster.graph(),
+        &StepLine::Feed(0, "a", values, next),
+    )?;
     let record = cluster.plan(&step).ok()?.small();
     Some(matches!(record.changes, Changes::Fed(_)))
 }

@@ -3,8 +3,8 @@
 use nd_cluster::{Allowed, Next};
 use nd_delta::{Delta, DeltaFault, LargeDelta};
 use nd_examples::{
-    Entry, HELD, LINE, LOOP, Script, TWO_WAYS, Told, are_entries, change, graph_of, len, paths_of,
-    point, pop, processors_of, push, reach, unpop, unpush,
+    Entry, HELD, LINE, LOOP, Script, StepLine, TWO_WAYS, are_entries, change, graph_of, len,
+    paths_of, point, pop, processors_of, push, reach, unpop, unpush,
 };
 use nd_graph::Graph;
 use nd_mesh::{Mesh, PushFault};
@@ -189,8 +189,8 @@ const HOLDING: Script = (
     HELD,
     1,
     &[
-        Told::Feed(0, "a", &[7], Next::Close),
-        Told::Take(0, "ah", &[0], 7),
+        StepLine::Feed(0, "a", &[7], Next::Close),
+        StepLine::Take(0, "ah", &[0], 7),
     ],
 );
 

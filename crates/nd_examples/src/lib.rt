@@ -15,7 +15,7 @@ pub use graphs::{
 pub use holdings::{item, move_token, set, set_item, take_all};
 pub use queues::{len, pop, push, unpop, unpush};
 pub use steps::{
-    HELD_MOVED, Named, SUM_NOTIFIED, Script, Sent, Told, is_state, make, processors_of, reach,
+    HELD_MOVED, Named, SUM_NOTIFIED, Script, Sent, StepLine, is_state, make, processors_of, reach,
     start, state_text, step_of, times_of, values_of,
 };
 pub use views::view;

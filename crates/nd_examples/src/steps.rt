@@ -9,7 +9,7 @@ use std::alloc::{Allocator, Global};
 
 /// A step: the processor, and the name of the vertex or the edge.
 #[derive(Drop)]
-pub enum Told {
+pub enum StepLine {
     /// The values that are fed, and what becomes of the token.
     Feed(u32, &'static str, &'static [i64], Next),
     /// The time and the value of the record that is taken.
@@ -45,22 +45,22 @@ pub struct Sent {
 pub type Named = (&'static str, &'static [u32]);
 
 /// A graph, the number of processors, and steps from the initial state on.
-pub type Script = (&'static str, u32, &'static [Told]);
+pub type Script = (&'static str, u32, &'static [StepLine]);
 
 /// A sum whose notice is enabled after two receives.
 pub const SUM_NOTIFIED: Script = (
     SUM,
     1,
     &[
-        Told::Feed(0, "a", &[2, 3], Next::Close),
-        Told::Take(0, "as", &[0], 2),
-        Told::All(0),
-        Told::Receive(0, 0),
-        Told::Take(0, "as", &[0], 3),
-        Told::All(0),
-        Told::Receive(0, 0),
-        Told::Notice(0, "s", &[0]),
-        Told::Take(0, "sz", &[0], 5),
+        StepLine::Feed(0, "a", &[2, 3], Next::Close),
+        StepLine::Take(0, "as", &[0], 2),
+        StepLine::All(0),
+        StepLine::Receive(0, 0),
+        StepLine::Take(0, "as", &[0], 3),
+        StepLine::All(0),
+        StepLine::Receive(0, 0),
+        StepLine::Notice(0, "s", &[0]),
+        StepLine::Take(0, "sz", &[0], 5),
     ],
 );
 
@@ -69,9 +69,9 @@ pub const HELD_MOVED: Script = (
     HELD,
     1,
     &[
-        Told::Feed(0, "a", &[7], Next::Close),
-        Told::Take(0, "ah", &[0], 7),
-        Told::Release(0, "h", &[0], Some(&[3])),
+        StepLine::Feed(0, "a", &[7], Next::Close),
+        StepLine::Take(0, "ah", &[0], 7),
+        StepLine::Release(0, "h", &[0], Some(&[3])),
     ],
 );
 
@@ -144,49 +144,53 @@ fn part_of<A: Allocator + Copy>(alloc: A, graph: &Graph<A>, list: &[Named]) -> O
 }
 
 /// Returns the step of this description.
-pub fn step_of<A: Allocator + Copy>(alloc: A, graph: &Graph<A>, told: &Told) -> Option<Step<A>> {
+pub fn step_of<A: Allocator + Copy>(
+    alloc: A,
+    graph: &Graph<A>,
+    told: &StepLine,
+) -> Option<Step<A>> {
     match told {
-        Told::Feed(p, name, list, next) => Some(Step::Feed {
+        StepLine::Feed(p, name, list, next) => Some(Step::Feed {
             p: *p,
             vertex: graph.location_of(name)?,
             values: values_of(alloc, list)?,
             next: *next,
         }),
-        Told::Take(p, name, list, value) => Some(Step::Take {
+        StepLine::Take(p, name, list, value) => Some(Step::Take {
             p: *p,
             edge: graph.location_of(name)?,
             time: time(list)?,
             value: *value,
         }),
-        Told::Notice(p, name, list) => Some(Step::Notice {
+        StepLine::Notice(p, name, list) => Some(Step::Notice {
             p: *p,
             vertex: graph.location_of(name)?,
             time: time(list)?,
         }),
-        Told::Release(p, name, list, to) => Some(Step::Release {
+        StepLine::Release(p, name, list, to) => Some(Step::Release {
             p: *p,
             vertex: graph.location_of(name)?,
             times: BoxedTimes::new(alloc, times_of(list, to, false)?).ok()?,
         }),
-        Told::Keep(p, name, list, to) => Some(Step::Release {
+        StepLine::Keep(p, name, list, to) => Some(Step::Release {
             p: *p,
             vertex: graph.location_of(name)?,
             times: BoxedTimes::new(alloc, times_of(list, &Some(*to), true)?).ok()?,
         }),
-        Told::Send(p, name, sent) => Some(Step::Send {
+        StepLine::Send(p, name, sent) => Some(Step::Send {
             p: *p,
             vertex: graph.location_of(name)?,
             batch: BoxedBatch::new(alloc, batch_of(alloc, sent)?).ok()?,
         }),
-        Told::All(p) => Some(Step::Broadcast {
+        StepLine::All(p) => Some(Step::Broadcast {
             p: *p,
             part: Part::All,
         }),
-        Told::Points(p, list) => Some(Step::Broadcast {
+        StepLine::Points(p, list) => Some(Step::Broadcast {
             p: *p,
             part: part_of(alloc, graph, list)?,
         }),
-        Told::Receive(from, to) => Some(Step::Receive {
+        StepLine::Receive(from, to) => Some(Step::Receive {
             from: *from,
             to: *to,
         }),
@@ -205,7 +209,7 @@ pub fn reach<A: Allocator + Copy>(
     alloc: A,
     text: &str,
     n: u32,
-    steps: &[Told],
+    steps: &[StepLine],
 ) -> Option<Cluster<A>> {
     let mut cluster = start(json, alloc, text, n)?;
     for told in steps {

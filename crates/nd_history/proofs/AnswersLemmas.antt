@@ -8,7 +8,7 @@ use Rattle.nd_history.specs.Answers.{AreClaims, IsLastClaim, IsMissing, AreCalle
 use Rattle.nd_history.proofs.Lists.{map_twice}
 use Rattle.nd_history.specs.Least.{HoldsAt, NoHit, IsLeast}
 use Rattle.nd_history.specs.Pieces.{piece_count, piece_start}
-use Rattle.nd_history.specs.Works.{IsResult, IsSearched, AreSearched, AreTold, AreIn, NoneBefore, IsFirst, IsFirstGap}
+use Rattle.nd_history.specs.Works.{IsResult, IsSearched, AreSearched, AreOfWorkers, AreIn, NoneBefore, IsFirst, IsFirstGap}
 use Rattle.nd_history.specs.declared.work.Searched.{Searched}
 use Rattle.nd_history.specs.declared.work.Work.{Work}
 use Rattle.nd_history.proofs.Elements.{get_below, all_at, length_of}
@@ -36,19 +36,19 @@ pub record IsSurvey {A : Type 0} (Hit : ℕ → Type 0) (Called : ℕ → ℕ �
   pub in_order : lo ≤ hi
   pub some : 0 < workers
   pub all : AreSearched Hit Called lo hi workers works
-  pub told : AreTold works rs
+  pub told : AreOfWorkers works rs
   pub all_in : AreIn works rs
   pub len : length rs ≡ piece_count lo hi
 
 module _ {A : Type 0} where
   pub survey : (Hit : ℕ → Type 0) (Called : ℕ → ℕ → Type 0) (lo hi lo' hi' workers : ℕ) (works lent : List (Searched A)) (items rs : List (Option (Option ℕ)))
       → lo' ≡ lo → hi' ≡ hi → lent ≡ works → rs ≡ items → lo ≤ hi → 0 < workers
-      → AreSearched Hit Called lo' hi' workers works → AreTold lent items → AreIn lent items → length rs ≡ piece_count lo' hi' → IsSurvey Hit Called lo hi workers works rs
+      → AreSearched Hit Called lo' hi' workers works → AreOfWorkers lent items → AreIn lent items → length rs ≡ piece_count lo' hi' → IsSurvey Hit Called lo hi workers works rs
   survey Hit Called lo hi lo' hi' workers works lent items rs first last same read in_order some all told all_in len = record {
     in_order = in_order;
     some = some;
     all = subst (λ (n : ℕ). AreSearched Hit Called lo n workers works) last (subst (λ (n : ℕ). AreSearched Hit Called n hi' workers works) first all);
-    told = subst (AreTold works) (sym read) (subst (λ (ws : List (Searched A)). AreTold ws items) same told);
+    told = subst (AreOfWorkers works) (sym read) (subst (λ (ws : List (Searched A)). AreOfWorkers ws items) same told);
     all_in = subst (AreIn works) (sym read) (subst (λ (ws : List (Searched A)). AreIn ws items) same all_in);
     len = len ∙ (ap (λ (n : ℕ). piece_count n hi') first ∙ ap (λ (n : ℕ). piece_count lo n) last);
   }

@@ -9,6 +9,6 @@ pub mod Steps
 pub mod WorksLemmas
 pub mod Totals
 pub mod WalkLemmas
-pub mod ToldLemmas
+pub mod ChangeListLemmas
 pub mod TurnsLemmas
 pub mod EffectedLemmas

@@ -9,8 +9,8 @@ use Rattle.nd_history.specs.Least.{NoHit, IsLeast}
 use Rattle.nd_history.specs.Turns.{Differs, IsTurn, AreTurns, AreFirstTurns, AreAllTurns, AreListed}
 use Rattle.nd_history.proofs.WalkLemmas.{no_hit_more}
 use Rattle.nd_history.specs.History.{ShowsIf, AreChanges, none_yet, no_change, one_change, AreFirst, AreAll, IsHistory}
-use Rattle.nd_history.specs.declared.told.Changed.{Changed}
-use Rattle.nd_history.specs.declared.told.Told.{Told}
+use Rattle.nd_history.specs.declared.change_list.Changed.{Changed}
+use Rattle.nd_history.specs.declared.change_list.ChangeList.{ChangeList}
 use Rattle.nd_history.specs.declared.turned.Turns.{Turns}
 
 abbrev pub positions_of : List Changed → List ℕ
@@ -116,7 +116,7 @@ module _ (Hit : ℕ → Type 0) where
   listed_if false lo hi cs are = record { few = omega (arith, are.few, length-map cs (λ (c : Changed). c.position)); all = (turns_of are.all).1 }
 
   -- the history of whether there is a hit is what is listed of the turns
-  pub listed_of : {A : Type 0} (lo hi : ℕ) (told : Told A) (t : Turns A) → IsTrue t.at_lo ↔ Hit lo → t.positions ≡ positions_of told.changes → t.more ≡ told.more
+  pub listed_of : {A : Type 0} (lo hi : ℕ) (told : ChangeList A) (t : Turns A) → IsTrue t.at_lo ↔ Hit lo → t.positions ≡ positions_of told.changes → t.more ≡ told.more
       → IsHistory (λ i. ShowsIf (Hit i)) lo hi told → AreListed Hit lo hi t
   listed_of lo hi told t at_lo positions more is =
       let Listed : Bool → List ℕ → Type 0 = λ b ks. MatchBool b (AreFirstTurns Hit lo hi ks) (AreAllTurns Hit lo hi ks) in
@@ -149,7 +149,7 @@ module _ (Hit : ℕ → Type 0) where
   longer lo end hi [] some le h = absurd (omega (arith, some))
   longer lo end hi (k ∷ ks) some le h = (h.0, omega (arith, h.1, le), h.2, h.3)
 
-  pub least_of : {A : Type 0} (lo hi : ℕ) (told : Told A) (b : Bool) → lo ≤ hi → IsTrue b ↔ Hit lo → IsHistory (λ i. ShowsIf (Hit i)) lo hi told → IsLeast Hit lo hi (cond b (Some lo) (slice_get (positions_of told.changes) 0))
+  pub least_of : {A : Type 0} (lo hi : ℕ) (told : ChangeList A) (b : Bool) → lo ≤ hi → IsTrue b ↔ Hit lo → IsHistory (λ i. ShowsIf (Hit i)) lo hi told → IsLeast Hit lo hi (cond b (Some lo) (slice_get (positions_of told.changes) 0))
   least_of lo hi told true le at_lo is = (omega arith, le, at_lo.0 refl, λ i from lt. absurd (omega (arith, from, lt)))
   least_of lo hi told false le at_lo is = by told.more is
     where

@@ -6,7 +6,7 @@ use Rattle.std.proofs.lemmas.List.{append_assoc}
 use Rattle.std.proofs.lemmas.Option.{slice_get-map}
 use Rattle.nd_history.specs.Answers.{IsLastClaim}
 use Rattle.nd_history.specs.Claims.{times, times_all, once_below, AreTheNumbersBelow}
-use Rattle.nd_history.specs.Works.{IsComplete, IsCutOff, NoneIsLeft, HasStopped, HaveStopped, all_drawn, AreTold, AreIn, IsFirstGap}
+use Rattle.nd_history.specs.Works.{IsComplete, IsCutOff, NoneIsLeft, HasStopped, HaveStopped, all_drawn, AreOfWorkers, AreIn, IsFirstGap}
 use Rattle.nd_history.specs.declared.work.Searched.{Searched}
 use Rattle.nd_history.specs.declared.work.Work.{Work}
 use Rattle.nd_history.proofs.Elements.{all_at, all_mapped, get_below}
@@ -176,7 +176,7 @@ module _ {A : Type 0} where
         ]
 
     -- if all were cut off, the first worker's last piece has no result, so no piece after all claims is the first gap
-    not_behind : (works : List (Searched A)) → AreTold works rs → All IsCutOff works → 0 < length works → (count : ℕ) → AreTheNumbersBelow count (lists_of works) → count ≤ j → ⊥
+    not_behind : (works : List (Searched A)) → AreOfWorkers works rs → All IsCutOff works → 0 < length works → (count : ℕ) → AreTheNumbersBelow count (lists_of works) → count ≤ j → ⊥
     not_behind [] told cut some count once le = absurd (omega (arith, some))
     not_behind (s ∷ works) told cut some count once le =
         let off : IsCutOff s = cut zero s (omega arith) in
@@ -189,7 +189,7 @@ module _ {A : Type 0} where
         let within : t.by.place < length t.work.found.items = get_below t.work.found.items t.by.place None t.by.result in
         absurd (omega (arith, same.1, within, ap (λ (v : Searched A). length v.found.items) same.0))
 
-    pub last_claim : (pieces count : ℕ) (works : List (Searched A)) → AreTold works rs → AreIn works rs → HaveStopped pieces works → 0 < length works → AreTheNumbersBelow count (lists_of works) → j < pieces → IsLastClaim j (lists_of works)
+    pub last_claim : (pieces count : ℕ) (works : List (Searched A)) → AreOfWorkers works rs → AreIn works rs → HaveStopped pieces works → 0 < length works → AreTheNumbersBelow count (lists_of works) → j < pieces → IsLastClaim j (lists_of works)
     last_claim pieces count works told all_in stopped some once lt =
         elim stopped.all [
           | inr all ↦ ends_with works all_in stopped.each (omega (arith, all j, each_below j pieces lt))

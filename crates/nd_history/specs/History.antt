@@ -5,8 +5,8 @@ use Rattle.nd_time.specs.Limits.{max_told}
 use Rattle.nd_protocol.specs.State.{ClusterState}
 use Rattle.nd_protocol.specs.Steps.{after}
 use Rattle.nd_timeline.specs.Timeline.{TimelineValue}
-use Rattle.nd_history.specs.declared.told.Changed.{Changed}
-use Rattle.nd_history.specs.declared.told.Told.{Told}
+use Rattle.nd_history.specs.declared.change_list.Changed.{Changed}
+use Rattle.nd_history.specs.declared.change_list.ChangeList.{ChangeList}
 
 -- ---- what is observed
 
@@ -52,5 +52,5 @@ pub record AreAll (Shows : ℕ → ℤ → Type 0) (lo hi : ℕ) (cs : List Chan
   pub all : AreChanges Shows lo hi cs
 
 -- the first changes from lo to hi, and whether there are more
-abbrev pub IsHistory : {A : Type 0} → (ℕ → ℤ → Type 0) → ℕ → ℕ → Told A → Type 0
+abbrev pub IsHistory : {A : Type 0} → (ℕ → ℤ → Type 0) → ℕ → ℕ → ChangeList A → Type 0
 IsHistory Shows lo hi told = MatchBool told.more (AreFirst Shows lo hi told.changes) (AreAll Shows lo hi told.changes)

@@ -7,7 +7,7 @@ pub mod Faults
 pub mod Hands
 pub mod Works
 pub mod Changes
-pub mod Told
+pub mod ChangeList
 pub mod History
 pub mod ViewChanges
 pub mod Turns

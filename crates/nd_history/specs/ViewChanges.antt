@@ -7,7 +7,7 @@ use Rattle.nd_protocol.specs.State.{view}
 use Rattle.nd_protocol.specs.Steps.{after}
 use Rattle.nd_timeline.specs.Timeline.{TimelineValue, cluster_of}
 use Rattle.nd_history.specs.Changes.{changes_between}
-use Rattle.nd_history.specs.declared.told.Changed.{Changed}
+use Rattle.nd_history.specs.declared.change_list.Changed.{Changed}
 use Rattle.nd_history.specs.declared.fault.ChangesFault.{ChangesFault}
 use Rattle.nd_history.specs.declared.fault.ChangesFault.TheVariants.{NoProcessor, BadRange, NoSuchPoint, Memory}
 
@@ -21,14 +21,14 @@ abbrev pub changes_of : {A : Type 0} → TimelineValue A → ℕ → Pointstamp 
 changes_of m q x lo hi = changes_between (entry_after m q x) lo hi
 
 -- the timeline has this processor, and this range of kept steps
-pub record MayTell {A : Type 0} (m : TimelineValue A) (q lo hi : ℕ) : Type 0 where
+pub record CanList {A : Type 0} (m : TimelineValue A) (q lo hi : ℕ) : Type 0 where
   pub processor : q < length (cluster_of m).processors
   pub range : lo ≤ hi
   pub within : hi ≤ length m.kept
 
 -- why no changes are listed
-abbrev pub CannotTell : {A : Type 0} → TimelineValue A → ℕ → ℕ → ℕ → ChangesFault → Type 0
-CannotTell m q lo hi NoProcessor = length (cluster_of m).processors ≤ q
-CannotTell m q lo hi BadRange = (q < length (cluster_of m).processors) × (hi < lo)
-CannotTell m q lo hi NoSuchPoint = (q < length (cluster_of m).processors) × (lo ≤ hi) × (length m.kept < hi)
-CannotTell m q lo hi Memory = MayTell m q lo hi
+abbrev pub CannotList : {A : Type 0} → TimelineValue A → ℕ → ℕ → ℕ → ChangesFault → Type 0
+CannotList m q lo hi NoProcessor = length (cluster_of m).processors ≤ q
+CannotList m q lo hi BadRange = (q < length (cluster_of m).processors) × (hi < lo)
+CannotList m q lo hi NoSuchPoint = (q < length (cluster_of m).processors) × (lo ≤ hi) × (length m.kept < hi)
+CannotList m q lo hi Memory = CanList m q lo hi

@@ -28,7 +28,7 @@ abbrev pub IsSearched : {A : Type 0} → (ℕ → Type 0) → ℕ → ℕ → Se
 IsSearched Hit lo hi s = AreFound Hit lo hi s.claimed.items s.found.items
 
 -- the worker has this result of piece j
-pub record IsToldBy {A : Type 0} (s : Searched A) (j : ℕ) (r : Option ℕ) : Type 0 where
+pub record HasResultBy {A : Type 0} (s : Searched A) (j : ℕ) (r : Option ℕ) : Type 0 where
   pub place : ℕ
   pub piece : slice_get s.claimed.items place ≡ Some j
   pub result : slice_get s.found.items place ≡ Some r
@@ -135,15 +135,15 @@ pub record AreSearched {A : Type 0} (Hit : ℕ → Type 0) (Called : ℕ → ℕ
 -- ---- the table of results, by piece
 
 -- some worker has this result of piece j
-pub record IsTold {A : Type 0} (works : List (Searched A)) (j : ℕ) (r : Option ℕ) : Type 0 where
+pub record HasResult {A : Type 0} (works : List (Searched A)) (j : ℕ) (r : Option ℕ) : Type 0 where
   pub who : ℕ
   pub work : Searched A
   pub there : slice_get works who ≡ Some work
-  pub by : IsToldBy work j r
+  pub by : HasResultBy work j r
 
 -- each result in the new table was in the old one, or the worker has it
-abbrev pub AreOldOrToldBy : {A : Type 0} → Searched A → List (Option (Option ℕ)) → List (Option (Option ℕ)) → Type 0
-AreOldOrToldBy s old new = (j : ℕ) (r : Option ℕ) → slice_get new j ≡ Some (Some r) → (slice_get old j ≡ Some (Some r)) ⊎ IsToldBy s j r
+abbrev pub AreOldOrOf : {A : Type 0} → Searched A → List (Option (Option ℕ)) → List (Option (Option ℕ)) → Type 0
+AreOldOrOf s old new = (j : ℕ) (r : Option ℕ) → slice_get new j ≡ Some (Some r) → (slice_get old j ≡ Some (Some r)) ⊎ HasResultBy s j r
 
 -- a piece without a result in the new table had none in the old one
 abbrev pub WereEmpty : List (Option (Option ℕ)) → List (Option (Option ℕ)) → Type 0
@@ -151,15 +151,15 @@ WereEmpty old new = (j : ℕ) → slice_get new j ≡ Some None → slice_get ol
 
 -- each piece of which the worker has a result has one in the table
 abbrev pub AreInBy : {A : Type 0} → Searched A → List (Option (Option ℕ)) → Type 0
-AreInBy s rs = (j : ℕ) (r : Option ℕ) → IsToldBy s j r → slice_get rs j ≡ Some None → ⊥
+AreInBy s rs = (j : ℕ) (r : Option ℕ) → HasResultBy s j r → slice_get rs j ≡ Some None → ⊥
 
 -- each result in the table is one that a worker has
-abbrev pub AreTold : {A : Type 0} → List (Searched A) → List (Option (Option ℕ)) → Type 0
-AreTold works rs = (j : ℕ) (r : Option ℕ) → slice_get rs j ≡ Some (Some r) → IsTold works j r
+abbrev pub AreOfWorkers : {A : Type 0} → List (Searched A) → List (Option (Option ℕ)) → Type 0
+AreOfWorkers works rs = (j : ℕ) (r : Option ℕ) → slice_get rs j ≡ Some (Some r) → HasResult works j r
 
 -- each piece of which some worker has a result has one in the table
 abbrev pub AreIn : {A : Type 0} → List (Searched A) → List (Option (Option ℕ)) → Type 0
-AreIn works rs = (j : ℕ) (r : Option ℕ) → IsTold works j r → slice_get rs j ≡ Some None → ⊥
+AreIn works rs = (j : ℕ) (r : Option ℕ) → HasResult works j r → slice_get rs j ≡ Some None → ⊥
 
 -- the pieces before j have results, and no hits
 abbrev pub NoneBefore : List (Option (Option ℕ)) → ℕ → Type 0

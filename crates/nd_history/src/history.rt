@@ -4,7 +4,7 @@ ghost use Rattle.nd_protocol.specs.State.{ClusterState};
 ghost use Rattle.nd_timeline.specs.Walks.{IsOn};
 ghost use Rattle.nd_history.specs.History.{IsHistory, shown_at};
 
-use crate::{Changed, Changes, Told};
+use crate::{ChangeList, Changed, Changes};
 use nd_cluster::Cluster;
 use nd_time::limits::MAX_TOLD;
 use nd_timeline::{Timeline, Walk};
@@ -59,7 +59,7 @@ pub(crate) fn history<A: Allocator + Copy, O: Observation>(
     walk: &mut Walk<A>,
     observation: &O,
     hi: u64,
-) -> Result<Told<A>, AllocError>
+) -> Result<ChangeList<A>, AllocError>
     requires on { IsOn timeline.now walk.old }
     requires ahead { walk.old.at ≤ hi }
     requires within { hi ≤ length timeline.now.kept }
@@ -73,7 +73,7 @@ pub(crate) fn history<A: Allocator + Copy, O: Observation>(
         let after = observation.of(&walk.cluster);
         if after != before {
             if changes.as_slice().len() == MAX_TOLD {
-                return Ok(Told {
+                return Ok(ChangeList {
                     changes,
                     more: true,
                 });
@@ -85,7 +85,7 @@ pub(crate) fn history<A: Allocator + Copy, O: Observation>(
         }
         before = after;
     }
-    Ok(Told {
+    Ok(ChangeList {
         changes,
         more: false,
     })

@@ -4,6 +4,7 @@
 #![tactic(auto)]
 
 mod board;
+mod change_list;
 mod condition_history;
 mod effected;
 mod fault;
@@ -15,17 +16,16 @@ mod searching;
 mod snapshot;
 mod table;
 mod team;
-mod told;
 mod turned;
 mod view_history;
 mod work;
 
+pub use change_list::{ChangeList, Changed, Changes};
 pub use condition_history::turns;
 pub use effected::{EffectFault, StepEffect, effect};
 pub use fault::{ChangesFault, SearchFault, TurnsFault};
 pub use gate::{Gate, OpenGate};
 pub use searching::{search, search_in};
 pub use snapshot::Snapshot;
-pub use told::{Changed, Changes, Told};
 pub use turned::{PositionList, Turns};
 pub use view_history::changes;

@@ -1,6 +1,6 @@
 //! The results of all workers by piece, and the least hit among them.
 ghost use Rattle.std.specs.Prelude.{◌≡◌, length, All, IfOk, MatchResult, vec_len};
-ghost use Rattle.nd_history.specs.Works.{IsEven, AreOldOrToldBy, WereEmpty, AreInBy, AreTold, AreIn, IsFirst, IsFirstGap};
+ghost use Rattle.nd_history.specs.Works.{IsEven, AreOldOrOf, WereEmpty, AreInBy, AreOfWorkers, AreIn, IsFirst, IsFirstGap};
 
 use crate::work::Searched;
 use std::alloc::{AllocError, Allocator};
@@ -9,7 +9,7 @@ use std::alloc::{AllocError, Allocator};
 fn put<A: Allocator>(searched: &Searched<A>, results: &mut [Option<Option<u64>>])
     requires { IsEven searched.now }
     ensures len { length results.new ≡ length results.old }
-    ensures told { AreOldOrToldBy searched.now results.old results.new }
+    ensures told { AreOldOrOf searched.now results.old results.new }
     ensures was_empty { WereEmpty results.old results.new }
     ensures all_in { AreInBy searched.now results.new }
 {
@@ -29,7 +29,7 @@ pub(crate) fn results<A: Allocator + Copy>(
 ) -> Result<Vec<Option<Option<u64>>, A>, AllocError>
     requires { All IsEven works.now }
     ensures len { IfOk result (λ v. vec_len v ≡ pieces) }
-    ensures told { IfOk result (λ v. AreTold works.now v.items) }
+    ensures told { IfOk result (λ v. AreOfWorkers works.now v.items) }
     ensures all_in { IfOk result (λ v. AreIn works.now v.items) }
 {
     let mut results = Vec::with_capacity(alloc, pieces as usize)?;

@@ -2,11 +2,11 @@
 ghost use Rattle.std.specs.Prelude.{◌≡◌, ◌≤◌, ℤ, length, IfOk, IfErr, OnOk};
 ghost use Rattle.nd_delta.specs.Delta.{at};
 ghost use Rattle.nd_protocol.specs.State.{view};
-ghost use Rattle.nd_history.specs.Told.{IsTold};
-ghost use Rattle.nd_history.specs.ViewChanges.{changes_of, MayTell, CannotTell};
+ghost use Rattle.nd_history.specs.ChangeList.{AreFirstChanges};
+ghost use Rattle.nd_history.specs.ViewChanges.{changes_of, CanList, CannotList};
 
 use crate::history::{Observation, history, walk_at};
-use crate::{ChangesFault, Told};
+use crate::{ChangeList, ChangesFault};
 use nd_cluster::Cluster;
 use nd_paths::Pointstamp;
 use nd_timeline::Timeline;
@@ -37,8 +37,8 @@ fn check<A: Allocator + Copy>(
     lo: u64,
     hi: u64,
 ) -> Result<(), ChangesFault>
-    ensures may { OnOk result (MayTell timeline.now q lo hi) }
-    ensures cannot { IfErr result (CannotTell timeline.now q lo hi) }
+    ensures may { OnOk result (CanList timeline.now q lo hi) }
+    ensures cannot { IfErr result (CannotList timeline.now q lo hi) }
 {
     if q >= timeline.cluster().n() {
         return Err(ChangesFault::NoProcessor);
@@ -64,10 +64,10 @@ pub fn changes<A: Allocator + Copy>(
     point: &Pointstamp,
     lo: u64,
     hi: u64,
-) -> Result<Told<A>, ChangesFault>
-    ensures told { IfOk result (IsTold (changes_of timeline.now q point.now lo hi)) }
-    ensures may { OnOk result (MayTell timeline.now q lo hi) }
-    ensures cannot { IfErr result (CannotTell timeline.now q lo hi) }
+) -> Result<ChangeList<A>, ChangesFault>
+    ensures told { IfOk result (AreFirstChanges (changes_of timeline.now q point.now lo hi)) }
+    ensures may { OnOk result (CanList timeline.now q lo hi) }
+    ensures cannot { IfErr result (CannotList timeline.now q lo hi) }
 {
     check(timeline, q, lo, hi)?;
     let mut walk = walk_at(alloc, timeline, lo)?;

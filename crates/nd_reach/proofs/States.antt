@@ -5,14 +5,14 @@ use Rattle.std.specs.List.{flat_map}
 use Rattle.std.proofs.lemmas.List.{append-nil}
 use Rattle.nd_delta.specs.Delta.{DeltaValue}
 use Rattle.nd_protocol.specs.Fitting.{ProcessorFits}
-use Rattle.nd_reach.specs.Forms.{form, processor_form, change_form, row_form, FormsTellStates}
+use Rattle.nd_reach.specs.Forms.{form, processor_form, change_form, row_form, FormsDetermineStates}
 use Rattle.nd_reach.proofs.Lists.{told_each, told_all}
 use Rattle.nd_reach.proofs.Parts.{tells_change, told_processor}
 use Rattle.nd_reach.proofs.Rows.{told_row}
 
-pub forms_tell : FormsTellStates
+pub forms_determine : FormsDetermineStates
 unfolding form
-forms_tell s t is_s is_t graph n e =
+forms_determine s t is_s is_t graph n e =
     let fits = subst (λ g. All (ProcessorFits g) t.processors) (sym graph) is_t.fits.processors in
     let rows = subst (λ k. All (λ (row : List (List DeltaValue)). length row ≡ k) t.queues) (sym n) is_t.fits.each_receiver in
     let processors = told_each (ProcessorFits s.graph) processor_form (λ p q r u i j h. told_processor p q r u (i.vertices ∙ sym j.vertices) h)

@@ -17,7 +17,7 @@ use Rattle.nd_steps.specs.Records.{named, Makes, MakesWhat}
 use Rattle.nd_cluster.specs.Records.{IsPlanned, shared}
 use Rattle.nd_cluster.specs.Saved.{IsSaved}
 use Rattle.nd_breaks.specs.Conditions.{Holds}
-use Rattle.nd_reach.specs.Forms.{form, FormsTellStates}
+use Rattle.nd_reach.specs.Forms.{form, FormsDetermineStates}
 use Rattle.nd_reach.specs.Reach.{HoldsAfter}
 use Rattle.nd_reach.specs.Search.{IsGoing}
 use Rattle.nd_reach.specs.Found.{Wanted, IsMade, IsNode, IsAlike, AreFound, HasSearched, HasBegun, GoesOn, IsHit, IsFull}
@@ -85,7 +85,7 @@ way_of_form f (w ∷ ways) (suc k) v is = way_of_form f ways k v is
 
 -- ---- one move
 
-module _ {A : Type 0} (tell : FormsTellStates) (q : Wanted) (forms : List (List ℕ)) (nodes : List (Node A)) (at : ℕ) (t : ClusterState) (moves : List (Step A)) (n : ℕ)
+module _ {A : Type 0} (tell : FormsDetermineStates) (q : Wanted) (forms : List (List ℕ)) (nodes : List (Node A)) (at : ℕ) (t : ClusterState) (moves : List (Step A)) (n : ℕ)
     (x : Step A) (h : GoesOn q forms nodes at t moves n) (next : slice_get moves n ≡ Some x) (state : IsState (stepped t x)) where
   leads : stepped t x ≡ after q.start (h.way ++ x ∷ [])
   leads = ap (λ (u : ClusterState). stepped u x) h.there ∙ sym (after_snoc q.start h.way x)

@@ -100,6 +100,6 @@ unfoldable pub form : ClusterState → List ℕ
 form s = flat_map processor_form s.processors ++ (flat_map change_form s.views ++ flat_map row_form s.queues)
 
 -- two states over one graph with the same number of processors are the same exactly if their forms are
-abbrev pub FormsTellStates : Type 0
-FormsTellStates =
+abbrev pub FormsDetermineStates : Type 0
+FormsDetermineStates =
     (s t : ClusterState) → IsState s → IsState t → s.graph ≡ t.graph → length s.processors ≡ length t.processors → form s ≡ form t → s ≡ t

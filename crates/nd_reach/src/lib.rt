@@ -15,7 +15,7 @@ mod way;
 mod writing;
 
 pub use fault::ReachFault;
-pub use laws::forms_tell_states;
+pub use laws::forms_determine_states;
 pub use nd_cluster::Allowed;
 pub use reached::{Reached, Steps};
 pub use search::reach;

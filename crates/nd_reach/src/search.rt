@@ -13,7 +13,7 @@ use crate::found::Found;
 use crate::going::{walk, walker_at};
 use crate::node::Node;
 use crate::way::way_to;
-use crate::{Allowed, ReachFault, Reached, forms_tell_states};
+use crate::{Allowed, ReachFault, Reached, forms_determine_states};
 use nd_breaks::Condition;
 use nd_cluster::{Cluster, Record, Saved};
 use nd_time::limits::MAX_REACHED;
@@ -76,7 +76,7 @@ impl<'a, A: Allocator + Copy> Question<'a, A> {
             → slice_get moves n ≡ Some made.step
             → HasTried (wanted self.now) found.new.forms.keys found.new.nodes.items at walker.new moves n end) }
     {
-        forms_tell_states();
+        forms_determine_states();
         walker.commit(&made)?;
         if found.has(walker)? {
             walker.back(&made)?;

@@ -1,6 +1,6 @@
 mod StartLemmas
 mod Logs
-mod Told
+mod ReceiptLemmas
 mod Filters
 mod Whole
 mod LogLemmas

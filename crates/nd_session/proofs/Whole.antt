@@ -7,8 +7,8 @@ use Rattle.std.proofs.lemmas.List.Sums.{length-filter}
 use Rattle.nd_session.specs.declared.receipt.Receipt.{Receipt}
 use Rattle.nd_session.specs.Log.{ArePlaced, count_of}
 use Rattle.nd_session.specs.Clients.{ClientValue, IsOwn}
-use Rattle.nd_session.specs.Close.{HeldBelow, IsNewBelow, IsRight, IsWrong, AreRightBelow, HasReceipt, HaveReceiptsBelow, IsUntold, AreInBelow, IsWhole}
-use Rattle.nd_session.specs.Tested.{IsOther, HasInPlace, AreInPlaceBelow, IsFirstUntold, IsClean}
+use Rattle.nd_session.specs.Close.{HeldBelow, IsNewBelow, IsRight, IsWrong, AreRightBelow, HasReceipt, HaveReceiptsBelow, IsUnlogged, AreInBelow, IsWhole}
+use Rattle.nd_session.specs.Tested.{IsOther, HasInPlace, AreInPlaceBelow, IsFirstUnlogged, IsClean}
 use Rattle.nd_session.proofs.Filters.{filter_at, found_in, some_at, same_list, in_take, to_take, take_less}
 
 module _ {A : Type 0} (log : List (Receipt A)) (clients : List (ClientValue A)) (k : ℕ) (p : ClientValue A) (rs : List (Receipt A)) (n : ℕ) where
@@ -155,8 +155,8 @@ module _ {A : Type 0} (log : List (Receipt A)) (placed : ArePlaced log) where
     have_receipts n h i below e at =
         let t = h i below e at in record { place = t.place; client = t.client; at = t.at; receipt_place = e.number; receipt = t.has.receipt }
 
-    pub is_untold : (entered number index : ℕ) → AreInBelow clients entered → IsFirstUntold log clients number index → IsUntold log clients entered number index
-    is_untold entered number index all_in h = record {
+    pub is_unlogged : (entered number index : ℕ) → AreInBelow clients entered → IsFirstUnlogged log clients number index → IsUnlogged log clients entered number index
+    is_unlogged entered number index all_in h = record {
       right = right;
       all_in = all_in;
       entry = h.entry;

@@ -61,7 +61,7 @@ pub record IsHistory {A : Type 0} (log : List (Receipt A)) (machine : MachineVal
   pub few : length log ≤ max_log
 
 -- r answers the client's command: it is an entry of some history that also has the client's last receipt, at a lesser index
-pub record IsTold {A : Type 0} (p : ClientValue A) (command : Command A) (r : Receipt A) : Type 0 where
+pub record IsReceiptFor {A : Type 0} (p : ClientValue A) (command : Command A) (r : Receipt A) : Type 0 where
   pub log : List (Receipt A)
   pub machine : MachineValue A
   pub history : IsHistory log machine
@@ -95,15 +95,15 @@ abbrev pub IsUnknown : {A : Type 0} → ℕ → List (Receipt A) → ClientValue
 IsUnknown entered log p = (entered ≤ p.number) ⊎ (HoldsLast log p.receipts → ⊥)
 
 -- the index that is reported to an unknown client: that of its last receipt, or 0
-abbrev pub told_index : {A : Type 0} → ClientValue A → ℕ
-told_index p = option_map_or (λ r. r.index) (last_of p.receipts) 0
+abbrev pub reported_index : {A : Type 0} → ClientValue A → ℕ
+reported_index p = option_map_or (λ r. r.index) (last_of p.receipts) 0
 
 -- the client is unknown, and the log has an entry at the index that is reported
-abbrev pub IsToldAnEntry : {A : Type 0} → ℕ → List (Receipt A) → ClientValue A → Type 0
-IsToldAnEntry entered log p = IsUnknown entered log p × (told_index p < length log)
+abbrev pub HasReportedEntry : {A : Type 0} → ℕ → List (Receipt A) → ClientValue A → Type 0
+HasReportedEntry entered log p = IsUnknown entered log p × (reported_index p < length log)
 
 -- what is reported to an unknown client: that index, and the log's entry there, if there is one
 pub record IsStranger {A : Type 0} (entered : ℕ) (log : List (Receipt A)) (p : ClientValue A) (index : ℕ) (found : Option (Receipt A)) : Type 0 where
   pub unknown : IsUnknown entered log p
-  pub index_is : index ≡ told_index p
+  pub index_is : index ≡ reported_index p
   pub found_is : found ≡ slice_get log index

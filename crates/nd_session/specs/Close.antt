@@ -92,7 +92,7 @@ pub record IsMissing {A : Type 0} (log : List (Receipt A)) (clients : List (Clie
   pub absent : IsIn clients number → ⊥
 
 -- `index` is that of the first entry that is no client's receipt
-pub record IsUntold {A : Type 0} (log : List (Receipt A)) (clients : List (ClientValue A)) (entered number index : ℕ) : Type 0 where
+pub record IsUnlogged {A : Type 0} (log : List (Receipt A)) (clients : List (ClientValue A)) (entered number index : ℕ) : Type 0 where
   pub right : AreRightBelow log clients (length clients)
   pub all_in : AreInBelow clients entered
   pub entry : Receipt A
@@ -103,7 +103,7 @@ pub record IsUntold {A : Type 0} (log : List (Receipt A)) (clients : List (Clien
 
 -- the first error: the clients are tested in order, then the numbers, then the entries
 abbrev pub ClosesWith : {A : Type 0} → List (Receipt A) → List (ClientValue A) → ℕ → CloseWhy → Type 0
-ClosesWith log clients entered (Mismatch number index) = IsMismatch log clients number index ⊎ IsUntold log clients entered number index
+ClosesWith log clients entered (Mismatch number index) = IsMismatch log clients number index ⊎ IsUnlogged log clients entered number index
 ClosesWith log clients entered (ClientMissing number) = IsMissing log clients entered number
 
 -- ---- what a clean end says

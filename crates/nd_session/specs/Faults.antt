@@ -3,7 +3,7 @@ use Rattle.std.specs.Prelude.{◌≡◌, ℕ, ◌<◌, ◌≤◌, ◌⊎◌, Lis
 use Rattle.nd_time.specs.Code.{Code, coded}
 use Rattle.nd_time.specs.Limits.{max_log, max_clients}
 use Rattle.nd_timeline.specs.Moves.{MachineValue}
-use Rattle.nd_session.specs.Clients.{ClientValue, IsHistory, IsKnown, IsToldAnEntry, IsStranger}
+use Rattle.nd_session.specs.Clients.{ClientValue, IsHistory, IsKnown, HasReportedEntry, IsStranger}
 use Rattle.nd_session.specs.declared.receipt.Receipt.{Receipt}
 use Rattle.nd_session.specs.declared.fault.SessionFault.{SessionFault}
 use Rattle.nd_session.specs.declared.fault.SessionFault.TheVariants.{NotThisSession, LogFull, TooManyClients, Memory}
@@ -29,7 +29,7 @@ abbrev pub TestFails : {A : Type 0} → ℕ → List (Receipt A) → ClientValue
 TestFails entered log p (NotThisSession index found) = IsStranger entered log p index found
 TestFails entered log p LogFull = ⊥
 TestFails entered log p TooManyClients = ⊥
-TestFails entered log p Memory = IsToldAnEntry entered log p
+TestFails entered log p Memory = HasReportedEntry entered log p
 
 -- a command of the client p fails with this error; memory can run out for the entry that is reported to an unknown client, or for
 -- a known client's own entry
@@ -37,7 +37,7 @@ abbrev pub CommandFails : {A : Type 0} → ℕ → List (Receipt A) → ClientVa
 CommandFails entered log p (NotThisSession index found) = IsStranger entered log p index found
 CommandFails entered log p LogFull = IsKnown entered log p × (length log ≡ max_log)
 CommandFails entered log p TooManyClients = ⊥
-CommandFails entered log p Memory = IsToldAnEntry entered log p ⊎ (IsKnown entered log p × (length log < max_log))
+CommandFails entered log p Memory = HasReportedEntry entered log p ⊎ (IsKnown entered log p × (length log < max_log))
 
 -- a copy for the client p fails with this error; memory can run out for the entry that is reported to an unknown client, or for a
 -- known client's copy
@@ -45,7 +45,7 @@ abbrev pub CopyFails : {A : Type 0} → ℕ → List (Receipt A) → ClientValue
 CopyFails entered log p (NotThisSession index found) = IsStranger entered log p index found
 CopyFails entered log p LogFull = ⊥
 CopyFails entered log p TooManyClients = ⊥
-CopyFails entered log p Memory = IsToldAnEntry entered log p ⊎ IsKnown entered log p
+CopyFails entered log p Memory = HasReportedEntry entered log p ⊎ IsKnown entered log p
 
 -- entering fails with this error
 abbrev pub EnterFails : {A : Type 0} → ℕ → SessionFault A → Type 0

@@ -6,5 +6,5 @@ use Rattle.nd_session.specs.declared.receipt.Receipt.{Receipt}
 
 -- the entries of a log determine the machine to which they lead from a given machine; this holds of a legal log's first entries,
 -- too
-abbrev pub LogsTellMachines : Type 0 → Type 0
-LogsTellMachines A = (m new other : MachineValue A) (log : List (Receipt A)) → Leads m log new → Leads m log other → new ≡ other
+abbrev pub LogsDetermineMachines : Type 0 → Type 0
+LogsDetermineMachines A = (m new other : MachineValue A) (log : List (Receipt A)) → Leads m log new → Leads m log other → new ≡ other

@@ -34,7 +34,7 @@ abbrev pub AreInPlaceBelow : {A : Type 0} → List (Receipt A) → List (ClientV
 AreInPlaceBelow {A} log clients n = (i : ℕ) → i < n → (e : Receipt A) → slice_get log i ≡ Some e → HasInPlace clients e
 
 -- `index` is that of the first entry that no client has at this position
-pub record IsFirstUntold {A : Type 0} (log : List (Receipt A)) (clients : List (ClientValue A)) (number index : ℕ) : Type 0 where
+pub record IsFirstUnlogged {A : Type 0} (log : List (Receipt A)) (clients : List (ClientValue A)) (number index : ℕ) : Type 0 where
   pub entry : Receipt A
   pub at : slice_get log index ≡ Some entry
   pub number_is : number ≡ entry.client

@@ -2,7 +2,7 @@
 ghost use Rattle.std.specs.Prelude.{◌≤◌, length, IfOk, IfErr, IfSome, IfNone, MatchBool};
 ghost use Rattle.nd_session.specs.Log.{ArePlaced};
 ghost use Rattle.nd_session.specs.Close.{HeldBelow, IsNewBelow, IsIn, AreInBelow, IsRight, AreRightBelow, IsFirstWrong, IsWrong, IsMismatch, ClosesWith, IsWhole, IsSettled, IsLeft};
-ghost use Rattle.nd_session.specs.Tested.{IsOther, IsFirstMissing, HasAt, HasInPlace, AreInPlaceBelow, IsFirstUntold, IsClean};
+ghost use Rattle.nd_session.specs.Tested.{IsOther, IsFirstMissing, HasAt, HasInPlace, AreInPlaceBelow, IsFirstUnlogged, IsClean};
 
 use crate::shared::{Shared, holds};
 use crate::{Client, Receipt};
@@ -137,12 +137,12 @@ fn has_in_place<A: Allocator + Copy>(clients: &[Client<A>], entry: &Receipt<A>) 
 }
 
 // Returns the client and the index of the first entry that no client has at its position.
-fn first_untold<A: Allocator + Copy>(
+fn first_unlogged<A: Allocator + Copy>(
     log: &[Receipt<A>],
     clients: &[Client<A>],
 ) -> Option<(u64, u64)>
     ensures none { IfNone result (AreInPlaceBelow log.now clients.now (length log.now)) }
-    ensures some { IfSome result (λ m. IsFirstUntold log.now clients.now m.0 m.1) }
+    ensures some { IfSome result (λ m. IsFirstUnlogged log.now clients.now m.0 m.1) }
 {
     for (i, entry) in log.iter().enumerate() {
         if !has_in_place(clients, entry) {
@@ -168,7 +168,7 @@ fn found_wrong<A: Allocator + Copy>(
     if let Some(client) = first_missing(clients, entered) {
         return Some(CloseWhy::ClientMissing { client });
     }
-    if let Some((client, index)) = first_untold(log, clients) {
+    if let Some((client, index)) = first_unlogged(log, clients) {
         return Some(CloseWhy::Mismatch { client, index });
     }
     None

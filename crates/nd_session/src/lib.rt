@@ -13,7 +13,7 @@ mod state;
 pub use client::Client;
 pub use close::{CloseFault, CloseWhy, Log};
 pub use fault::SessionFault;
-pub use laws::logs_tell_machines;
+pub use laws::logs_determine_machines;
 pub use receipt::Receipt;
 pub use session::Session;
 pub use state::State;

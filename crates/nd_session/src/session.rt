@@ -1,7 +1,7 @@
 //! A `State` that many clients drive through one lock.
 ghost use Rattle.std.specs.Prelude.{◌≡◌, ◌<◌, [], IfOk, IfErr, OnErr};
 ghost use Rattle.nd_time.specs.Limits.{max_clients};
-ghost use Rattle.nd_session.specs.Clients.{Gains, IsTold, IsSeen};
+ghost use Rattle.nd_session.specs.Clients.{Gains, IsReceiptFor, IsSeen};
 ghost use Rattle.nd_session.specs.Close.{ClosesWith, IsWhole, IsSettled};
 ghost use Rattle.nd_session.specs.Faults.{CommandMayFail, CopyMayFail, EnterMayFail};
 
@@ -43,7 +43,7 @@ impl<A: Allocator + Copy> Session<A> {
         client: &mut Client<A>,
         command: Command<A>,
     ) -> Result<Receipt<A>, SessionFault<A>>
-        ensures told { IfOk result (IsTold client.old command) }
+        ensures told { IfOk result (IsReceiptFor client.old command) }
         ensures kept { IfOk result (Gains client.old client.new) }
         ensures same { OnErr result (client.new ≡ client.old) }
         ensures fails { IfErr result (CommandMayFail client.old) }

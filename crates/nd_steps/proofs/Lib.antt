@@ -10,7 +10,6 @@ pub mod Differences
 pub mod CountedLemmas
 pub mod ReachesLemmas
 pub mod TurnsLemmas
-pub mod ListedLemmas
 pub mod Destinations
 pub mod DraftsLemmas
 pub mod FoundLemmas

@@ -1,8 +1,10 @@
 -- Changes applied one after the other, and undone.
-use Rattle.std.proofs.Common.{◌≡◌, ◌<◌, ◌≤◌, ◌+◌, ℕ, ℤ, pos, neg_ℤ, ◌+ℤ◌, cond, List, [], ◌∷◌, ◌++◌, take, length, get_or, get_or-set_same, refl, sym, ap, subst, ◌∙◌, arith}
+use Rattle.std.proofs.Common.{◌≡◌, ◌<◌, ◌≤◌, ◌+◌, ℕ, ℤ, pos, neg_ℤ, ◌+ℤ◌, cond, List, [], ◌∷◌, ◌++◌, take, length, get_or, refl, sym, ap, subst, ◌∙◌, arith}
 use Rattle.std.proofs.lemmas.Int.{ints}
-use Rattle.std.proofs.lemmas.List.{take_more, take_all, set-get_or}
+use Rattle.std.proofs.lemmas.List.{take_more, take_all}
 use Rattle.std.proofs.lemmas.Map.Views.{tells_apart}
+use Rattle.std.specs.Cow.{cow_value}
+use Rattle.std.specs.declared.borrow.Cow.{Cow}
 use Rattle.std.specs.Ordering.{eq_by_cmp}
 use Rattle.nd_map.specs.Cases.{again}
 use Rattle.nd_protocol.specs.State.{ClusterState}
@@ -89,9 +91,9 @@ all_made s cs k past = ap (applied s) (take_all k cs past)
 
 -- ---- a change of the list, in a state that equals the one there
 
--- what stands past the end does not matter before it
-pub same_at : (cs : List Change) (k : ℕ) (d e : Change) → k < length cs → get_or cs k d ≡ get_or cs k e
-same_at cs k d e lt = sym (get_or-set_same cs k (get_or cs k d) e lt) ∙ ap (λ xs. get_or xs k e) (set-get_or cs k d)
+-- a change of the list as it is read
+pub read_as : (cs : List Change) (k : ℕ) (r : Cow Change) (c : Change) → c ≡ cow_value r → cow_value r ≡ get_or cs k (cow_value r) → c ≡ get_or cs k c
+read_as cs k r c e is = subst (λ d. d ≡ get_or cs k d) (sym e) is
 
 module _ (s : ClusterState) (cs : List Change) (runs : IsRunnable s cs) (k : ℕ) (c : Change) (is : c ≡ get_or cs k c) (lt : k < length cs) (t : ClusterState) where
   fits_there_now : Fits (state_at s cs k) c

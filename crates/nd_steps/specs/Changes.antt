@@ -9,15 +9,10 @@ use Rattle.nd_steps.specs.Slots.{stands, puts, SlotIsThere, SlotMay, SlotWithin}
 use Rattle.nd_steps.specs.Standing.{standing, put_at}
 use Rattle.nd_steps.specs.declared.change.Change.{Change}
 use Rattle.nd_steps.specs.declared.slot.Slot.{Slot}
-use Rattle.nd_steps.specs.declared.slot.Slot.TheVariants.{Token}
 
 -- the change that adds n at a key of processor p's maps
 abbrev pub at_key : ℕ → Slot → ℤ → Change
 at_key p slot n = record { p = p; slot = slot; n = n }
-
--- change k of a list; past the end one that adds 0
-abbrev pub change_at : List Change → ℕ → Change
-change_at cs k = get_or cs k (at_key 0 (Token 0) (pos 0))
 
 -- the place of a change
 abbrev pub place_of : Change → Place

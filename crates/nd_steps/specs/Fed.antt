@@ -9,16 +9,6 @@ use Rattle.nd_steps.specs.declared.change.Change.{Change}
 use Rattle.nd_steps.specs.declared.slot.Slot.TheVariants.{Records, Token, Unsent}
 use Rattle.nd_steps.specs.declared.fed_at.FedAt.{FedAt}
 
--- the values of a feed; none if the step is not a feed
-abbrev pub values_of : {A : Type 0} → Step A → List ℤ
-values_of (Feed p vertex values _) = values
-values_of (Take p edge t value) = []
-values_of (Notice p vertex t) = []
-values_of (Release p vertex times) = []
-values_of (Send p vertex batch) = []
-values_of (Broadcast p part) = []
-values_of (Receive from to) = []
-
 -- a value arrives
 abbrev pub arrived : FedAt → ℤ → Change
 arrived f v = at_key f.to (Records (record_key f.edge (flat f.epoch) v)) (pos 1)
@@ -37,16 +27,12 @@ moved f p vertex n =
     cond (nat_eq f.next f.epoch) (announced f p n)
     (token ∷ cond f.late (comes ∷ announced f p n ++ goes ∷ []) (goes ∷ comes ∷ announced f p n))
 
--- the changes after those of the records; none if the step is not a feed
-abbrev pub rest_of : {A : Type 0} → Step A → FedAt → List Change
-rest_of (Feed p vertex values _) f = moved f p vertex (length values)
-rest_of (Take p edge t value) f = []
-rest_of (Notice p vertex t) f = []
-rest_of (Release p vertex times) f = []
-rest_of (Send p vertex batch) f = []
-rest_of (Broadcast p part) f = []
-rest_of (Receive from to) f = []
-
 -- the changes of a feed, in the order in which they are applied; none if the step is not a feed
 abbrev pub fed_changes : {A : Type 0} → Step A → FedAt → List Change
-fed_changes x f = map (arrived f) (values_of x) ++ rest_of x f
+fed_changes (Feed p vertex values _) f = map (arrived f) values ++ moved f p vertex (length values)
+fed_changes (Take p edge t value) f = []
+fed_changes (Notice p vertex t) f = []
+fed_changes (Release p vertex times) f = []
+fed_changes (Send p vertex batch) f = []
+fed_changes (Broadcast p part) f = []
+fed_changes (Receive from to) f = []

@@ -49,11 +49,11 @@ flow_changes p gone f =
     cond f.late (arriving p gone f.come ++ unsent ∷ goes) (unsent ∷ arriving p gone f.come ++ goes)
 
 -- the changes that a flow stands for, in this order; none if the step is not a take
-abbrev pub told_changes : {A : Type 0} → Step A → Flow → List Change
-told_changes (Feed p vertex values _) f = []
-told_changes (Take p edge t value) f = flow_changes p (record_key edge t value) f
-told_changes (Notice p vertex t) f = []
-told_changes (Release p vertex times) f = []
-told_changes (Send p vertex batch) f = []
-told_changes (Broadcast p part) f = []
-told_changes (Receive from to) f = []
+abbrev pub keyed_flow : {A : Type 0} → Step A → Flow → List Change
+keyed_flow (Feed p vertex values _) f = []
+keyed_flow (Take p edge t value) f = flow_changes p (record_key edge t value) f
+keyed_flow (Notice p vertex t) f = []
+keyed_flow (Release p vertex times) f = []
+keyed_flow (Send p vertex batch) f = []
+keyed_flow (Broadcast p part) f = []
+keyed_flow (Receive from to) f = []

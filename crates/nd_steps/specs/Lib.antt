@@ -11,9 +11,9 @@ pub mod Limits
 pub mod Turns
 pub mod Ordered
 pub mod Counted
-pub mod Listed
 pub mod Drafts
 pub mod Fed
+pub mod Keyed
 pub mod Onward
 pub mod Performers
 pub mod Targets

@@ -1,5 +1,5 @@
 -- What the record of a step names, and to which state it leads.
-use Rattle.std.specs.Prelude.{◌≡◌, ◌<◌, ℕ, ◌+◌, List, Some, slice_get, length}
+use Rattle.std.specs.Prelude.{◌≡◌, ◌<◌, ℕ, ◌+◌, List, [], Some, slice_get, length}
 use Rattle.nd_delta.specs.Delta.{DeltaValue, plus, size, IsTooLarge, IsPartOf}
 use Rattle.nd_mesh.specs.Mesh.{row, HasQueue, IsFull}
 use Rattle.nd_protocol.specs.State.{ClusterState, processor, view, queue}
@@ -7,20 +7,26 @@ use Rattle.nd_protocol.specs.Exchange.{sent, received}
 use Rattle.nd_protocol.specs.Fitting.{IsState}
 use Rattle.nd_protocol.specs.declared.step.Step.{Step}
 use Rattle.nd_steps.specs.Changes.{IsRunnable, applied}
-use Rattle.nd_steps.specs.Flows.{told_changes}
+use Rattle.nd_steps.specs.Flows.{keyed_flow}
 use Rattle.nd_steps.specs.Fed.{fed_changes}
 use Rattle.nd_steps.specs.declared.change.Change.{Change}
 use Rattle.nd_steps.specs.declared.record.Changes.{Changes}
 use Rattle.nd_steps.specs.declared.record.Changes.TheVariants.{Each, Flowed, Fed, Sent, Received}
 use Rattle.nd_steps.specs.declared.record.Record.{Record}
 
+-- the changes of a step at single keys, in the order in which they are applied; none of a broadcast or a receive
+abbrev pub keyed : {A : Type 0} → Step A → Changes A → List Change
+keyed x (Each changes) = changes.items
+keyed x (Flowed flow) = keyed_flow x flow
+keyed x (Fed at) = fed_changes x at
+keyed x (Sent p part) = []
+keyed x (Received from to change) = []
+
 -- how many keys of maps and ends of queues the changes of a step name; a broadcast names one end for all its queues
 abbrev pub named_by : {A : Type 0} → Step A → Changes A → ℕ
-named_by x (Each changes) = length changes.items
-named_by x (Flowed flow) = length (told_changes x flow)
-named_by x (Fed at) = length (fed_changes x at)
 named_by x (Sent p part) = size part + 1
 named_by x (Received from to change) = size change + 1
+named_by x changes = length (keyed x changes)
 
 -- how many keys of maps and ends of queues a record names
 abbrev pub named : {A : Type 0} → Record A → ℕ
@@ -64,11 +70,15 @@ Receives s from to c t = CanReceive s from to c × (received s from to ≡ t)
 
 -- the changes of a step lead from s to t
 abbrev pub MakesBy : {A : Type 0} → ClusterState → Step A → Changes A → ClusterState → Type 0
-MakesBy s x (Each changes) t = RunsTo s changes.items t
-MakesBy s x (Flowed flow) t = RunsTo s (told_changes x flow) t
-MakesBy s x (Fed at) t = RunsTo s (fed_changes x at) t
 MakesBy s x (Sent p part) t = Sends s p part t
 MakesBy s x (Received from to change) t = Receives s from to change t
+MakesBy s x changes t = RunsTo s (keyed x changes) t
+
+-- the changes ds of a step are its changes cs, in the same order, and lead wherever these lead
+pub record StandFor {A : Type 0} (x : Step A) (cs ds : Changes A) : Type 0 where
+  pub same : keyed x ds ≡ keyed x cs
+  pub many : named_by x ds ≡ named_by x cs
+  pub makes : (s t : ClusterState) → MakesBy s x cs t → MakesBy s x ds t
 
 -- the changes of a record lead from s to t
 abbrev pub Makes : {A : Type 0} → ClusterState → Record A → ClusterState → Type 0

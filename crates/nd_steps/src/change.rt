@@ -1,6 +1,5 @@
 //! A change at one place of a cluster's state: a place, and a number.
-ghost use Rattle.std.specs.Prelude.{◌≡◌, IsTrue, pos};
-ghost use Rattle.nd_steps.specs.Changes.{inverse};
+ghost use Rattle.std.specs.Prelude.{◌≡◌, IsTrue, neg_ℤ, pos};
 ghost use Rattle.nd_steps.specs.Undone.{IsGain};
 
 use crate::Slot;
@@ -46,14 +45,11 @@ impl Change {
         self.p == other.p && self.slot.same(&other.slot) && self.n == other.n
     }
 
-    /// Returns the change that undoes this one.
-    pub fn inverse(&self) -> Change
+    // Returns the number of the inverse, which undoes the change.
+    pub(crate) fn opposite(&self) -> i128
         requires { IsGain self.now.n }
-        ensures { result ≡ inverse self.now }
+        ensures { result ≡ neg_ℤ self.now.n }
     {
-        Change {
-            n: -self.n,
-            ..self.copy()
-        }
+        -self.n
     }
 }

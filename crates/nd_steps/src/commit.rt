@@ -7,7 +7,6 @@ ghost use Rattle.nd_steps.specs.Records.{Makes, CameFrom, IsWhere, IsBackAt};
 use crate::broadcast::{send, unsend};
 use crate::receive::{receive, unreceive};
 use crate::run::{make_all, undo_all};
-use crate::told::Told;
 use crate::{Changes, Record};
 use nd_protocol::Parts;
 use std::alloc::{AllocError, Allocator};
@@ -23,11 +22,8 @@ pub fn commit_record<A: Allocator + Copy>(
     ensures err { OnErr result (parts.new ≡ parts.old) }
 {
     match &planned.changes {
-        Changes::Each(changes) => make_all(parts, &Told::whole(changes)),
-        Changes::Flowed(flow) => make_all(parts, &Told::whole(&flow.told(&planned.step))),
-        Changes::Fed(at) => {
-            let rest = at.rest(&planned.step);
-            make_all(parts, &at.told(&planned.step, &rest))
+        Changes::Each(_) | Changes::Flowed(_) | Changes::Fed(_) => {
+            make_all(parts, &planned.keyed())
         }
         Changes::Sent { p, part } => send(parts, *p as usize, part),
         Changes::Received { from, to, change } => {
@@ -47,12 +43,7 @@ pub fn undo_record<A: Allocator + Copy>(
     ensures err { OnErr result (parts.new ≡ parts.old) }
 {
     match &made.changes {
-        Changes::Each(changes) => undo_all(parts, &Told::whole(changes)),
-        Changes::Flowed(flow) => undo_all(parts, &Told::whole(&flow.told(&made.step))),
-        Changes::Fed(at) => {
-            let rest = at.rest(&made.step);
-            undo_all(parts, &at.told(&made.step, &rest))
-        }
+        Changes::Each(_) | Changes::Flowed(_) | Changes::Fed(_) => undo_all(parts, &made.keyed()),
         Changes::Sent { p, part } => unsend(parts, *p as usize, part),
         Changes::Received { from, to, change } => {
             unreceive(alloc, parts, *from as usize, *to as usize, change)

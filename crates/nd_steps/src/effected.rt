@@ -14,9 +14,9 @@ ghost use Rattle.nd_steps.specs.Effect.{lists_of, effect_of, altered_count, Make
 ghost use Rattle.nd_steps.specs.Altering.{sent_row, longer_row, longer_rows, received_row, shorter_row, IsEffectTo, RunsExactly};
 
 use crate::draft::sorted;
+use crate::keyed::Keyed;
 use crate::receive::count_after;
 use crate::record::copied;
-use crate::told::Told;
 use crate::{Altered, Change, Changes, Effect, Record};
 use nd_delta::Delta;
 use nd_mesh::Mesh;
@@ -26,7 +26,10 @@ use nd_view::View;
 use std::alloc::{AllocError, Allocator};
 
 // Returns the changes in the order of their places.
-fn in_order<A: Allocator + Copy>(alloc: A, changes: &Told<'_>) -> Result<Vec<Change, A>, AllocError>
+fn in_order<A: Allocator + Copy>(
+    alloc: A,
+    changes: &Keyed<'_>,
+) -> Result<Vec<Change, A>, AllocError>
     ensures same { IfOk result (λ v. IsPermutation changes.now v.items) }
     ensures order { IfOk result (λ v. AreByPlace v.items) }
 {
@@ -146,7 +149,7 @@ fn shorter<A: Allocator + Copy>(mesh: &Mesh<A>, from: u32, to: u32) -> Altered<u
 fn changes_effect<A: Allocator + Copy>(
     alloc: A,
     parts: &Parts<A>,
-    changes: &Told<'_>,
+    changes: &Keyed<'_>,
 ) -> Result<Effect<A>, AllocError>
     requires { (t : ClusterState) × RunsExactly parts.now changes.now t }
     ensures { IfOk result (IsEffectTo parts.now (RunsTo parts.now changes.now)) }
@@ -203,13 +206,8 @@ fn listed_effect<A: Allocator + Copy>(
     ensures { IfOk result (IsEffectTo parts.now (Makes parts.now planned.now)) }
 {
     match &planned.changes {
-        Changes::Each(changes) => changes_effect(alloc, parts, &Told::whole(changes)),
-        Changes::Flowed(flow) => {
-            changes_effect(alloc, parts, &Told::whole(&flow.told(&planned.step)))
-        }
-        Changes::Fed(at) => {
-            let rest = at.rest(&planned.step);
-            changes_effect(alloc, parts, &at.told(&planned.step, &rest))
+        Changes::Each(_) | Changes::Flowed(_) | Changes::Fed(_) => {
+            changes_effect(alloc, parts, &planned.keyed())
         }
         Changes::Sent { p, part } => sent_effect(alloc, parts, *p, part),
         Changes::Received { from, to, change } => {

@@ -1,10 +1,10 @@
 //! Feeds that are kept in little memory: the step determines most of the changes.
 ghost use Rattle.std.specs.Prelude.{◌≡◌, ◌≤◌, ◌+◌, ◌++◌, IfSome, length};
-ghost use Rattle.nd_steps.specs.Fed.{values_of, arrived as arrived_at, announced, moved, rest_of, fed_changes};
+ghost use Rattle.nd_steps.specs.Fed.{arrived as arrived_at, announced, moved, fed_changes};
 
 use crate::feed::moves;
 use crate::flow::MOST;
-use crate::told::Told;
+use crate::keyed::Keyed;
 use crate::{Change, Slot, record_at};
 use arrayvec::ArrayVec;
 use nd_processor::token_point;
@@ -26,17 +26,6 @@ pub struct FedAt {
     pub next: u32,
     /// Whether the token's pointstamp is removed from what is unsent after everything else was added.
     pub late: bool,
-}
-
-// Returns the values of a feed, none if the step is not a feed.
-fn fed_values<A: Allocator>(step: &Step<A>) -> &[i64]
-    ensures { result.now ≡ values_of step.now }
-{
-    match step {
-        Step::Feed { values, .. } => values.as_slice(),
-        Step::Take { .. } | Step::Notice { .. } | Step::Release { .. } => &[],
-        Step::Send { .. } | Step::Broadcast { .. } | Step::Receive { .. } => &[],
-    }
 }
 
 // Guesses from the changes of a feed into `vertex` where its records arrive and where its token moves.
@@ -131,9 +120,9 @@ impl FedAt {
         list
     }
 
-    // Lists the changes of a step after those of the records, none if the step is not a feed.
-    pub(crate) fn rest<A: Allocator>(&self, step: &Step<A>) -> ArrayVec<Change, MOST>
-        ensures { result.items ≡ rest_of step.now self.now }
+    // Returns the changes of a step, in order; none if the step is not a feed.
+    pub(crate) fn keyed<'a, A: Allocator>(&self, step: &'a Step<A>) -> Keyed<'a>
+        ensures { result ≡ fed_changes step.now self.now }
     {
         match step {
             Step::Feed {
@@ -141,30 +130,24 @@ impl FedAt {
                 vertex,
                 values,
                 ..
-            } => self.moved(*p, *vertex, values.as_slice().len()),
-            Step::Take { .. } | Step::Notice { .. } | Step::Release { .. } => ArrayVec::new(),
-            Step::Send { .. } | Step::Broadcast { .. } | Step::Receive { .. } => ArrayVec::new(),
+            } => {
+                let values = values.as_slice();
+                Keyed::fed(*self, values, self.moved(*p, *vertex, values.len()))
+            }
+            Step::Take { .. } | Step::Notice { .. } | Step::Release { .. } => Keyed::whole(&[]),
+            Step::Send { .. } | Step::Broadcast { .. } | Step::Receive { .. } => Keyed::whole(&[]),
         }
     }
 
-    // Returns the changes of a step, in order, given the rest of them.
-    pub(crate) fn told<'a, A: Allocator>(&self, step: &'a Step<A>, rest: &'a [Change]) -> Told<'a>
-        requires { rest.now ≡ rest_of step.now self.now }
-        ensures { result ≡ fed_changes step.now self.now }
-    {
-        Told::fed(*self, fed_values(step), rest)
-    }
-
     // Returns what stands for these changes of a step, or `None` if it finds nothing that does.
-    pub(crate) fn telling<A: Allocator>(step: &Step<A>, changes: &[Change]) -> Option<FedAt>
+    pub(crate) fn of<A: Allocator>(step: &Step<A>, changes: &[Change]) -> Option<FedAt>
         ensures { IfSome result (λ f. fed_changes step.now f ≡ changes.now) }
     {
         let Step::Feed { vertex, .. } = step else {
             return None;
         };
         let at = guessed(*vertex, changes);
-        let rest = at.rest(step);
-        if !at.told(step, &rest).is(changes) {
+        if !at.keyed(step).is(changes) {
             return None;
         }
         Some(at)

@@ -1,9 +1,10 @@
 //! Takes that are kept in little memory: the consequence determines the changes.
 ghost use Rattle.std.specs.Prelude.{◌≡◌, ◌≤◌, ◌++◌, IfOk, IfErr, length};
 ghost use Rattle.nd_steps.specs.Ordered.{CanReach, IsOrderedFlow, PassLimit};
-ghost use Rattle.nd_steps.specs.Flows.{arriving, come_changes, flow_changes, told_changes};
+ghost use Rattle.nd_steps.specs.Flows.{arriving, come_changes, flow_changes, keyed_flow};
 
 use crate::come::Come;
+use crate::keyed::Keyed;
 use crate::order::put_in_order;
 use crate::{Change, Slot, record_at};
 use arrayvec::ArrayVec;
@@ -85,8 +86,8 @@ impl Flow {
     }
 
     // Lists the changes of a step, in order; none if the step is not a take.
-    pub(crate) fn told<A: Allocator>(&self, step: &Step<A>) -> ArrayVec<Change, MOST>
-        ensures { result.items ≡ told_changes step.now self.now }
+    pub(crate) fn keyed<'a, A: Allocator>(&self, step: &'a Step<A>) -> Keyed<'a>
+        ensures { result ≡ keyed_flow step.now self.now }
     {
         match step {
             Step::Take {
@@ -94,9 +95,9 @@ impl Flow {
                 edge,
                 time,
                 value,
-            } => self.changes(*p, record_at(*edge, time, *value)),
-            Step::Feed { .. } | Step::Notice { .. } | Step::Release { .. } => ArrayVec::new(),
-            Step::Send { .. } | Step::Broadcast { .. } | Step::Receive { .. } => ArrayVec::new(),
+            } => Keyed::few(self.changes(*p, record_at(*edge, time, *value))),
+            Step::Feed { .. } | Step::Notice { .. } | Step::Release { .. } => Keyed::whole(&[]),
+            Step::Send { .. } | Step::Broadcast { .. } | Step::Receive { .. } => Keyed::whole(&[]),
         }
     }
 }

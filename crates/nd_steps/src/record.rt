@@ -1,9 +1,8 @@
 //! Records of steps: the changes of each.
 ghost use Rattle.std.specs.Prelude.{◌≡◌, IfOk};
-ghost use Rattle.nd_steps.specs.Records.{named, AreEqual, MakesWhat};
-ghost use Rattle.nd_steps.specs.Listed.{listed, TellsWhat};
+ghost use Rattle.nd_steps.specs.Records.{keyed, named, AreEqual, MakesWhat, StandFor};
 
-use crate::told::Told;
+use crate::keyed::Keyed;
 use crate::{Change, FedAt, Flow};
 use nd_delta::Delta;
 use nd_protocol::Step;
@@ -49,14 +48,14 @@ impl<A: Allocator + Copy> Drop for Record<A> {
 // Copies changes.
 pub(crate) fn copied<A: Allocator + Copy>(
     alloc: A,
-    changes: &Told<'_>,
+    changes: &Keyed<'_>,
 ) -> Result<Vec<Change, A>, AllocError>
     ensures { IfOk result (λ v. v.items ≡ changes.now) }
 {
     let count = changes.len();
     let mut list = Vec::with_capacity(alloc, count)?;
     for i in 0..count {
-        list.push(changes.get(i))?;
+        list.push(changes.at(i).copy())?;
     }
     Ok(list)
 }
@@ -67,7 +66,7 @@ impl<A: Allocator + Copy> Changes<A> {
         ensures { IfOk result (AreEqual self.now) }
     {
         match self {
-            Changes::Each(changes) => { Ok(Changes::Each(copied(alloc, &Told::whole(changes))?)) }
+            Changes::Each(changes) => { Ok(Changes::Each(copied(alloc, &Keyed::whole(changes))?)) }
             Changes::Flowed(flow) => Ok(Changes::Flowed(*flow)),
             Changes::Fed(at) => Ok(Changes::Fed(*at)),
             Changes::Sent { p, part } => Ok(Changes::Sent {
@@ -84,10 +83,10 @@ impl<A: Allocator + Copy> Changes<A> {
 
     // Returns the same changes of a step, with a `FedAt` in place of a list if one stands for it.
     fn small(self, step: &Step<A>) -> Changes<A>
-        ensures { TellsWhat step.now self result }
+        ensures { StandFor step.now self result }
     {
         if let Changes::Each(list) = &self {
-            if let Some(at) = FedAt::telling(step, list) {
+            if let Some(at) = FedAt::of(step, list) {
                 return Changes::Fed(at);
             }
         }
@@ -96,15 +95,25 @@ impl<A: Allocator + Copy> Changes<A> {
 }
 
 impl<A: Allocator + Copy> Record<A> {
+    // Returns the changes at single keys, in order; none of a broadcast or a receive.
+    pub(crate) fn keyed(&self) -> Keyed<'_>
+        ensures { result ≡ keyed self.now.step self.now.changes }
+    {
+        match &self.changes {
+            Changes::Each(changes) => Keyed::whole(changes),
+            Changes::Flowed(flow) => flow.keyed(&self.step),
+            Changes::Fed(at) => at.keyed(&self.step),
+            Changes::Sent { .. } | Changes::Received { .. } => Keyed::whole(&[]),
+        }
+    }
+
     /// Returns the number of entries: the keys of maps and the ends of queues that the changes name. The common end of a broadcast's
     /// queues counts once.
     pub fn entries(&self) -> usize
         ensures { result ≡ named self.now }
     {
         match &self.changes {
-            Changes::Each(changes) => changes.len(),
-            Changes::Flowed(flow) => flow.told(&self.step).len(),
-            Changes::Fed(at) => at.told(&self.step, &at.rest(&self.step)).len(),
+            Changes::Each(_) | Changes::Flowed(_) | Changes::Fed(_) => self.keyed().len(),
             Changes::Sent { p: _, part } => part.entries().len() + 1,
             Changes::Received {
                 from: _,
@@ -138,7 +147,7 @@ impl<A: Allocator + Copy> Record<A> {
     /// place of a list for which it finds one.
     pub fn small(self) -> Record<A>
         ensures step { result.step ≡ self.step }
-        ensures listed { listed result ≡ listed self }
+        ensures changes { keyed result.step result.changes ≡ keyed self.step self.changes }
         ensures many { named result ≡ named self }
         ensures makes { MakesWhat self result }
     {

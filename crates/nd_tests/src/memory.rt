@@ -4,7 +4,7 @@
 use crate::opened::{Asked, NOTHING, command_of, session_of};
 use crate::timelines::memory::Heap;
 use nd_cluster::Next;
-use nd_examples::{LINE, Told, graph_of, is_state, state_text};
+use nd_examples::{LINE, StepLine, graph_of, is_state, state_text};
 use nd_graph::Graph;
 use nd_session::{Client, Session};
 use nd_testing::{MANY, Refusing};
@@ -13,7 +13,7 @@ use std::alloc::{Allocator, Global};
 use std::sync::Wait;
 
 /// A feed of so many values that each copy of it takes memory.
-const FEED: Asked = Asked::Forward(Told::Feed(0, "a", &[5, 6, 7, 8], Next::Next));
+const FEED: Asked = Asked::Forward(StepLine::Feed(0, "a", &[5, 6, 7, 8], Next::Next));
 
 /// A call of a session.
 #[derive(Drop)]

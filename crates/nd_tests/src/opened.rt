@@ -2,7 +2,7 @@
 
 use nd_breaks::{Atom, BoxedCondition, Condition, Literal, Quantifier};
 use nd_cluster::{Cluster, Next};
-use nd_examples::{Told, graph_of, processors_of, step_of};
+use nd_examples::{StepLine, graph_of, processors_of, step_of};
 use nd_graph::Graph;
 use nd_session::{Session, State};
 use nd_timeline::{Command, Timeline};
@@ -11,7 +11,7 @@ use std::alloc::{Allocator, Global};
 /// A command, its step by the names of locations.
 #[derive(Drop)]
 pub enum Asked {
-    Forward(Told),
+    Forward(StepLine),
     Back,
     Redo,
     Jump(u64),
@@ -26,7 +26,7 @@ pub enum Asked {
 }
 
 /// A feed of nothing.
-pub const NOTHING: Asked = Asked::Forward(Told::Feed(0, "a", &[], Next::Next));
+pub const NOTHING: Asked = Asked::Forward(StepLine::Feed(0, "a", &[], Next::Next));
 
 /// Returns the condition that an atom holds.
 pub fn only(atom: Atom) -> Condition {

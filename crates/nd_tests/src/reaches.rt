@@ -5,7 +5,7 @@ use crate::opened::only;
 use crate::timelines::memory::Heap;
 use nd_breaks::{Atom, Condition};
 use nd_cluster::{Allowed, Cluster, Next, Step};
-use nd_examples::{HELD, LINE, Told, make, point, reach as cluster_of, start, step_of};
+use nd_examples::{HELD, LINE, StepLine, make, point, reach as cluster_of, start, step_of};
 use nd_reach::{ReachFault, Reached, reach};
 use nd_testing::{Refusing, in_turn};
 use std::alloc::{Allocator, Global};
@@ -21,7 +21,7 @@ enum Wanted {
 
 /// A graph and steps of one processor, the steps of users that are allowed, how many states are looked at, and what a search
 /// returns.
-type Row = (&'static str, &'static [Told], Allowed, u64, Wanted);
+type Row = (&'static str, &'static [StepLine], Allowed, u64, Wanted);
 
 const NONE: Allowed = Allowed {
     feeds: false,
@@ -38,18 +38,18 @@ const RELEASES: Allowed = Allowed {
     releases: true,
 };
 
-const NOTHING: &[Told] = &[];
+const NOTHING: &[StepLine] = &[];
 
 /// A record on an edge.
-const FED: &[Told] = &[Told::Feed(0, "a", &[5], Next::Close)];
+const FED: &[StepLine] = &[StepLine::Feed(0, "a", &[5], Next::Close)];
 
 /// A processor that holds a capability, and has nothing else to do.
-const HOLDING: &[Told] = &[
-    Told::Feed(0, "a", &[7], Next::Close),
-    Told::Take(0, "ah", &[0], 7),
-    Told::Take(0, "hz", &[0], 7),
-    Told::All(0),
-    Told::Receive(0, 0),
+const HOLDING: &[StepLine] = &[
+    StepLine::Feed(0, "a", &[7], Next::Close),
+    StepLine::Take(0, "ah", &[0], 7),
+    StepLine::Take(0, "hz", &[0], 7),
+    StepLine::All(0),
+    StepLine::Receive(0, 0),
 ];
 
 static ROWS: [Row; 6] = [
@@ -125,7 +125,7 @@ fn searches_out_of_memory(rt: HostRuntime) {
 }
 
 /// Two steps that put a change into the queue of a processor.
-const QUEUEING: &[Told] = &[Told::Feed(0, "a", &[], Next::Next), Told::All(0)];
+const QUEUEING: &[StepLine] = &[StepLine::Feed(0, "a", &[], Next::Next), StepLine::All(0)];
 
 /// How many processors there are, the changes that the first puts into each queue, and how many it then receives from itself.
 type Queues = (u32, u32, u32);

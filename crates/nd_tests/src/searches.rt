@@ -4,7 +4,7 @@ use crate::opened::only;
 use crate::timelines::memory::Heap;
 use nd_breaks::{Atom, Condition};
 use nd_cluster::Next;
-use nd_examples::{LINE, Told, point, start, step_of};
+use nd_examples::{LINE, StepLine, point, start, step_of};
 use nd_history::{Gate, OpenGate, SearchFault, Snapshot, search};
 use nd_testing::{MANY, Refusing, Sign};
 use nd_timeline::Timeline;
@@ -14,7 +14,7 @@ use std::sync::atomic::{AtomicU64, Ordering};
 use std::thread::Threads;
 
 /// A feed of nothing.
-static NOTHING: Told = Told::Feed(0, "a", &[], Next::Next);
+static NOTHING: StepLine = StepLine::Feed(0, "a", &[], Next::Next);
 
 /// Returns a snapshot of a line that keeps this many feeds of nothing, the cursor at this position.
 fn fed<A: Allocator + Copy>(json: Global, alloc: A, times: u64, at: u64) -> Option<Snapshot<A>> {

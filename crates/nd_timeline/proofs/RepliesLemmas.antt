@@ -7,7 +7,7 @@ use Rattle.nd_breaks.specs.Conditions.{ConditionValue}
 use Rattle.nd_timeline.specs.Timeline.{TimelineValue, cluster_of, extended}
 use Rattle.nd_timeline.specs.Moves.{MachineValue, ForwardMoves, BackMoves, RedoMoves, JumpMoves, Goes, HasRun, StopsAt, RunMoves, SetMoves, ClearMoves}
 use Rattle.nd_timeline.specs.Seeds.{tried}
-use Rattle.nd_timeline.specs.Laws.{RepliesTellMachines}
+use Rattle.nd_timeline.specs.Laws.{RepliesDetermineMachines}
 use Rattle.nd_timeline.specs.declared.command.Command.TheVariants as command
 use Rattle.nd_timeline.specs.declared.fault.Fault.TheVariants as fault
 use Rattle.nd_timeline.specs.declared.reply.Stop.{Stop}
@@ -97,16 +97,16 @@ module _ {A : Type 0} where
   one_machine : (new other : MachineValue A) → new.timeline ≡ other.timeline → new.breaks ≡ other.breaks → new ≡ other
   one_machine new other timeline breaks = λ i. record { timeline = timeline i; breaks = breaks i }
 
-pub replies_tell : (A : Type 0) → RepliesTellMachines A
-replies_tell A m new other (command.Forward x) r h k =
+pub replies_determine : (A : Type 0) → RepliesDetermineMachines A
+replies_determine A m new other (command.Forward x) r h k =
     one_machine new other (one_forward m.timeline new.timeline other.timeline x r h.0 k.0) (h.1 ∙ sym k.1)
-replies_tell A m new other command.Back r h k = one_machine new other (one_back m.timeline new.timeline other.timeline r h.0 k.0) (h.1 ∙ sym k.1)
-replies_tell A m new other command.Redo r h k = one_machine new other (one_redo m.timeline new.timeline other.timeline r h.0 k.0) (h.1 ∙ sym k.1)
-replies_tell A m new other (command.Jump n) r h k =
+replies_determine A m new other command.Back r h k = one_machine new other (one_back m.timeline new.timeline other.timeline r h.0 k.0) (h.1 ∙ sym k.1)
+replies_determine A m new other command.Redo r h k = one_machine new other (one_redo m.timeline new.timeline other.timeline r h.0 k.0) (h.1 ∙ sym k.1)
+replies_determine A m new other (command.Jump n) r h k =
     one_machine new other (one_jump m.timeline new.timeline other.timeline n r h.0 k.0) (h.1 ∙ sym k.1)
-replies_tell A m new other (command.Run limit only seed) r h k =
+replies_determine A m new other (command.Run limit only seed) r h k =
     one_machine new other (one_ran m.timeline new.timeline other.timeline limit only seed m.breaks r h.0 k.0) (h.1 ∙ sym k.1)
-replies_tell A m new other (command.SetBreak c) r h k =
+replies_determine A m new other (command.SetBreak c) r h k =
     one_machine new other (h.1 ∙ sym k.1) (one_set m.breaks new.breaks other.breaks c r h.0 k.0)
-replies_tell A m new other (command.ClearBreak id) r h k =
+replies_determine A m new other (command.ClearBreak id) r h k =
     one_machine new other (h.1 ∙ sym k.1) (one_clear m.breaks new.breaks other.breaks id r h.0 k.0)

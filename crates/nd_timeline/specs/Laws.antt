@@ -24,6 +24,6 @@ ChoicesAreUnique A =
     (s : ClusterState) (xs : List (Step A)) (choice other : Option (Step A)) → Chooses s xs choice → Chooses s xs other → choice ≡ other
 
 -- a machine, a command and its reply determine the machine after the command
-abbrev pub RepliesTellMachines : Type 0 → Type 0
-RepliesTellMachines A =
+abbrev pub RepliesDetermineMachines : Type 0 → Type 0
+RepliesDetermineMachines A =
     (m new other : MachineValue A) (command : Command A) (reply : Reply) → Moves m command reply new → Moves m command reply other → new ≡ other

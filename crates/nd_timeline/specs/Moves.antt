@@ -115,8 +115,8 @@ StopsAt {A} only seed breaks limit m ran (stop.Break id) new = record {
 }
 
 -- the reply has the cursor and the number of kept steps
-abbrev pub Tells : {A : Type 0} → TimelineValue A → ℕ → ℕ → Type 0
-Tells new at kept = (at ≡ new.cursor) × (kept ≡ length new.kept)
+abbrev pub ReportsCursor : {A : Type 0} → TimelineValue A → ℕ → ℕ → Type 0
+ReportsCursor new at kept = (at ≡ new.cursor) × (kept ≡ length new.kept)
 
 -- which replies a run may get, and the timeline after each; if memory runs out, the steps executed so far stay
 abbrev pub RunMoves : {A : Type 0} → TimelineValue A → ℕ → Option (List ℕ) → Option ℕ → BreakMap → Reply → TimelineValue A → Type 0
@@ -125,7 +125,7 @@ RunMoves m limit only seed breaks (Refused (of_step NoProcessor)) new = (m.curso
 RunMoves m limit only seed breaks (Refused (Memory at)) new =
     (m.cursor + limit ≤ max_kept) × (ListsMissing m only → ⊥) × ((ran : ℕ) × (ran < limit) × HasRun only seed breaks ran m new × (at ≡ m.cursor + ran))
 RunMoves m limit only seed breaks (Ran at kept ran stop) new =
-    (m.cursor + limit ≤ max_kept) × (ListsMissing m only → ⊥) × StopsAt only seed breaks limit m ran stop new × Tells new at kept
+    (m.cursor + limit ≤ max_kept) × (ListsMissing m only → ⊥) × StopsAt only seed breaks limit m ran stop new × ReportsCursor new at kept
 RunMoves m limit only seed breaks _ new = ⊥
 
 -- ---- breakpoints

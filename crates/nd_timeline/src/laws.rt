@@ -1,6 +1,6 @@
 //! What every move of the debugger machine preserves, and what its replies determine: functions without
 //! code, to be called if their clauses are needed.
-ghost use Rattle.nd_timeline.specs.Laws.{MovesKeepBase, MovesKeepTimelines, ChoicesAreUnique, RepliesTellMachines};
+ghost use Rattle.nd_timeline.specs.Laws.{MovesKeepBase, MovesKeepTimelines, ChoicesAreUnique, RepliesDetermineMachines};
 
 use std::alloc::Allocator;
 
@@ -13,7 +13,7 @@ pub fn moves_keep_timelines<A: Allocator>()
 
 /// Shows that the candidates and the state determine the choice among them, and that a command and its
 /// reply determine the machine after them.
-pub fn replies_tell_machines<A: Allocator>()
+pub fn replies_determine_machines<A: Allocator>()
     ensures choice { ChoicesAreUnique A }
-    ensures machine { RepliesTellMachines A }
+    ensures machine { RepliesDetermineMachines A }
 {}

@@ -15,7 +15,7 @@ mod walk;
 
 pub use command::Command;
 pub use fault::Fault;
-pub use laws::{moves_keep_timelines, replies_tell_machines};
+pub use laws::{moves_keep_timelines, replies_determine_machines};
 pub use machine::Machine;
 pub use reply::{Ran, Reply, Stop};
 pub use timeline::Timeline;

@@ -6,7 +6,7 @@ use Rattle.std.specs.declared.alloc.Global.{Global}
 use Rattle.rewind_lines.specs.Lines.{Reading, reading_of}
 use Rattle.rewind_lines.specs.Texts.{reply_text}
 use Rattle.rewind_answers.specs.Answers.{Answers, Phase}
-use Rattle.rewind_answers.specs.Stages.{Tells}
+use Rattle.rewind_answers.specs.Stages.{AreReplies}
 use Rattle.rewind.specs.Script.{Run}
 use Rattle.rewind.specs.States.{Gathers}
 
@@ -30,20 +30,20 @@ Run-push old mid new k n (l ∷ ls) line replies first e h a =
 
 -- a line without a reply
 pub gathers-none : (old new : Phase) (n m : ℕ) (reading : Reading) (reply : Option (Vec ℕ Global)) (waited : List ℕ) → reply ≡ None → m ≡ n
-    → Tells (λ rs. Answers old m reading rs new) reply → Gathers old n reading waited waited 0 new
+    → AreReplies (λ rs. Answers old m reading rs new) reply → Gathers old n reading waited waited 0 new
 gathers-none old new n m reading reply waited is same h = record {
   replies = [];
-  answers = subst (λ (k : ℕ). Answers old k reading [] new) same (subst (λ (r : Option (Vec ℕ Global)). Tells (λ rs. Answers old m reading rs new) r) is h);
+  answers = subst (λ (k : ℕ). Answers old k reading [] new) same (subst (λ (r : Option (Vec ℕ Global)). AreReplies (λ rs. Answers old m reading rs new) r) is h);
   gathered = sym (append-nil waited);
   is_count = refl;
 }
 
 -- a line whose reply has this text
 pub gathers-one : (old new : Phase) (n m : ℕ) (reading : Reading) (reply : Option (Vec ℕ Global)) (text : Vec ℕ Global) (waited waits : List ℕ) → reply ≡ Some text → m ≡ n
-    → Tells (λ rs. Answers old m reading rs new) reply → waits ≡ waited ++ (text.items ++ 10 ∷ []) → Gathers old n reading waited waits 1 new
+    → AreReplies (λ rs. Answers old m reading rs new) reply → waits ≡ waited ++ (text.items ++ 10 ∷ []) → Gathers old n reading waited waits 1 new
 unfolding reply_text
 gathers-one old new n m reading reply text waited waits is same h added =
-    let told = subst (λ (r : Option (Vec ℕ Global)). Tells (λ rs. Answers old m reading rs new) r) is h in record {
+    let told = subst (λ (r : Option (Vec ℕ Global)). AreReplies (λ rs. Answers old m reading rs new) r) is h in record {
       replies = told.0 ∷ [];
       answers = subst (λ (k : ℕ). Answers old k reading (told.0 ∷ []) new) same told.1;
       gathered = added ∙ ap (λ t. waited ++ (t ++ 10 ∷ [])) told.2 ∙ ap (λ t. waited ++ t) (sym (append-nil (reply_text told.0)));

@@ -20,7 +20,7 @@ pub record CandidatesReply (s : ClusterState) (reply : Data) : Type 0 where
 
 -- the minimal times that can arrive at a location according to processor q's view, in the order of listing; a time is passed
 -- there exactly if none of them is at or before it
-pub record TellsTimes (s : ClusterState) (q l : ℕ) (reply : Data) : Type 0 where
+pub record ListsTimes (s : ClusterState) (q l : ℕ) (reply : Data) : Type 0 where
   pub times_there : List Time
   pub arrivals : AreArrivals s.graph (view s q) l times_there
   pub exact : AreExact s.graph (view s q) l times_there
@@ -30,4 +30,4 @@ pub record TellsTimes (s : ClusterState) (q l : ℕ) (reply : Data) : Type 0 whe
 abbrev pub FrontierAtReply : ClusterState → ℕ → ℕ → Data → Type 0
 FrontierAtReply s q l reply =
     ((length s.processors ≤ q) × (reply ≡ no_processor))
-    ⊎ ((q < length s.processors) × TellsTimes s q l reply)
+    ⊎ ((q < length s.processors) × ListsTimes s q l reply)

@@ -43,7 +43,7 @@ use Rattle.rewind_forms.specs.declared.version.Version.TheVariants.{First, Secon
 use Rattle.rewind_forms.specs.declared.fault.LineFault.{LineFault}
 use Rattle.rewind_forms.specs.declared.fault.LineFault.TheVariants.{LineTooLong, BadLine}
 use Rattle.rewind_forms.specs.declared.asked.Asked.{Asked}
-use Rattle.rewind_forms.specs.declared.asked.Asked.TheVariants.{Do, Tell}
+use Rattle.rewind_forms.specs.declared.asked.Asked.TheVariants.{Do, Look}
 use Rattle.rewind_forms.specs.declared.queries.Search.{Search as Searching}
 use Rattle.rewind_forms.specs.declared.queries.Query.{Query}
 use Rattle.rewind_forms.specs.declared.queries.Query.TheVariants.{State, Count, Before, View, Frontier, Passed, Search, Export, Why, Changes, Step, Candidates, Effect, Turns, FrontierAt, Reach}
@@ -194,7 +194,7 @@ pub data CommandReply (m : Logged) (asked : Command Global) (reply : Data) (new 
 -- a command is answered by a reply and a new machine; a query leaves the machine as it is
 abbrev pub AskedReply : Logged → Asked → Data → Logged → Type 0
 AskedReply m (Do command) reply new = CommandReply m command reply new
-AskedReply m (Tell query) reply new = QueryReply m.machine.timeline query reply × (new ≡ m)
+AskedReply m (Look query) reply new = QueryReply m.machine.timeline query reply × (new ≡ m)
 
 -- the replies to a line of a script of this version, which is or is not a command or a query
 abbrev pub FormReplies : Version → Logged → ℕ → Result Asked LineFault → List Data → Phase → Type 0

@@ -16,8 +16,8 @@ use Rattle.nd_why.specs.Account.{Account}
 use Rattle.nd_why.specs.Why.{IsWhy, IsFinishedBefore}
 use Rattle.nd_why.specs.declared.question.Question.{Question}
 use Rattle.nd_steps.specs.Effect.{lists_of}
-use Rattle.nd_history.specs.Told.{IsTold}
-use Rattle.nd_history.specs.ViewChanges.{changes_of, MayTell, CannotTell}
+use Rattle.nd_history.specs.ChangeList.{AreFirstChanges}
+use Rattle.nd_history.specs.ViewChanges.{changes_of, CanList, CannotList}
 use Rattle.nd_history.specs.Faults.{code_of_changes, code_of_turns}
 use Rattle.nd_history.specs.Effected.{IsEffect, HasNoEffect, IsLedTo, code_of_effect}
 use Rattle.nd_history.specs.Least.{HoldsAt}
@@ -28,7 +28,7 @@ use Rattle.nd_history.specs.declared.effected.EffectFault.TheVariants as effects
 use Rattle.nd_history.specs.declared.turned.Turns.{Turns}
 use Rattle.nd_history.specs.declared.fault.TurnsFault.{TurnsFault}
 use Rattle.nd_history.specs.declared.fault.TurnsFault.TheVariants as turned
-use Rattle.nd_history.specs.declared.told.Told.{Told}
+use Rattle.nd_history.specs.declared.change_list.ChangeList.{ChangeList}
 use Rattle.nd_history.specs.declared.fault.ChangesFault.{ChangesFault}
 use Rattle.nd_history.specs.declared.fault.ChangesFault.TheVariants as changes
 use Rattle.rewind_forms.specs.Replies.{fault, no_processor, exported, kept_step, changed, why, effect, turns}
@@ -73,7 +73,7 @@ pub data EffectReply (m : TimelineValue Global) (to : ℕ) (reply : Data) : Type
 
 -- the reasons why the asked processor does not consider everything before the asked pointstamp finished; whether its view has
 -- passed all of that; and whether all of that is finished
-pub record TellsWhy (s : ClusterState) (asked : Question) (reply : Data) : Type 0 where
+pub record ReportsReasons (s : ClusterState) (asked : Question) (reply : Data) : Type 0 where
   pub accounts : List Account
   pub whole : IsWhy s asked accounts
   pub passed : Bool
@@ -85,7 +85,7 @@ pub record TellsWhy (s : ClusterState) (asked : Question) (reply : Data) : Type 
 abbrev pub WhyReply : ClusterState → Question → Data → Type 0
 WhyReply s asked reply =
     ((length s.processors ≤ asked.q) × (reply ≡ no_processor))
-    ⊎ ((asked.q < length s.processors) × TellsWhy s asked reply)
+    ⊎ ((asked.q < length s.processors) × ReportsReasons s asked reply)
 
 -- ---- changes
 
@@ -96,9 +96,9 @@ changes_fault e = Some (fault (code_of_changes e))
 
 -- The reply to a query for changes: the first of them, and whether there are more; or the first error whose condition holds.
 pub data ChangesReply (m : TimelineValue Global) (c : ViewChanges) (reply : Data) : Type 0 where
-  told : (telling : Told Global) → MayTell m c.q c.lo c.hi → IsTold (changes_of m c.q c.point c.lo c.hi) telling
+  told : (telling : ChangeList Global) → CanList m c.q c.lo c.hi → AreFirstChanges (changes_of m c.q c.point c.lo c.hi) telling
       → reply ≡ changed (changes_data telling.changes) telling.more → ChangesReply m c reply
-  untold : (e : ChangesFault) → CannotTell m c.q c.lo c.hi e → Some reply ≡ changes_fault e → ChangesReply m c reply
+  untold : (e : ChangesFault) → CannotList m c.q c.lo c.hi e → Some reply ≡ changes_fault e → ChangesReply m c reply
 
 -- ---- turns
 

@@ -5,7 +5,7 @@ use Rattle.std.specs.declared.alloc.Global.{Global}
 use Rattle.nd_graph.specs.Graph.{Dataflow}
 use Rattle.nd_graph.specs.declared.fault.GraphFault.{GraphFault}
 use Rattle.nd_session.specs.State.{StateValue}
-use Rattle.rewind_forms.specs.Replies.{TellsOne}
+use Rattle.rewind_forms.specs.Replies.{IsReply}
 use Rattle.rewind_forms.specs.declared.version.Version.{Version}
 use Rattle.rewind_answers.specs.Answers.{Logged, Phase, unopened, unstarted, running, refused, StartReplies}
 use Rattle.rewind_forms.specs.Errors.{error_data}
@@ -53,6 +53,6 @@ abbrev pub IsOrFollows : {X S : Type 0} → (X → S → Type 0) → S → S →
 IsOrFollows {X} May s t = (t ≡ s) ⊎ ((x : X) × May x t)
 
 -- the text of an answer, if it has one, is that of replies which may be given: none or one
-abbrev pub Tells : (List Data → Type 0) → Option (Vec ℕ Global) → Type 0
-Tells May None = May []
-Tells May (Some text) = TellsOne (λ reply. May (reply ∷ [])) text.items
+abbrev pub AreReplies : (List Data → Type 0) → Option (Vec ℕ Global) → Type 0
+AreReplies May None = May []
+AreReplies May (Some text) = IsReply (λ reply. May (reply ∷ [])) text.items

@@ -1,6 +1,6 @@
 //! The replies that say what a run could try next, and which times can still arrive at a location.
 ghost use Rattle.std.specs.Prelude.{IfOk};
-ghost use Rattle.rewind_forms.specs.Replies.{TellsOne};
+ghost use Rattle.rewind_forms.specs.Replies.{IsReply};
 ghost use Rattle.rewind_answers.specs.Ahead.{CandidatesReply, FrontierAtReply};
 
 use crate::query::no_processor;
@@ -10,7 +10,7 @@ use std::alloc::{AllocError, Global};
 
 /// Replies with the steps that a run could try, and why each refused step is refused.
 pub(crate) fn answer_candidates(alloc: Global, cluster: &Cluster) -> Result<Vec<u8>, AllocError>
-    ensures reply { IfOk result (λ t. TellsOne (CandidatesReply cluster.now) t.items) }
+    ensures reply { IfOk result (λ t. IsReply (CandidatesReply cluster.now) t.items) }
 {
     let Ok(candidates) = cluster.candidates() else {
         return Err(AllocError);
@@ -34,7 +34,7 @@ pub(crate) fn answer_frontier_at(
     q: u32,
     location: usize,
 ) -> Result<Vec<u8>, AllocError>
-    ensures reply { IfOk result (λ t. TellsOne (FrontierAtReply cluster.now q location) t.items) }
+    ensures reply { IfOk result (λ t. IsReply (FrontierAtReply cluster.now q location) t.items) }
 {
     let q = q as usize;
     if q >= cluster.n() {

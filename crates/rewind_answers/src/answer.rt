@@ -4,7 +4,7 @@ ghost use Rattle.nd_graph.specs.Fault.{IsUnlessMemory};
 ghost use Rattle.nd_graph.specs.declared.fault.GraphFault.TheVariants.{Shape};
 ghost use Rattle.serde_json.specs.View.{view};
 ghost use Rattle.rewind_answers.specs.Answers.{draft_in, checked_in, graph_of as graph_in, most_processors as most_in, LineReplies, AskedReply, CommandReply};
-ghost use Rattle.rewind_forms.specs.Replies.{TellsOne};
+ghost use Rattle.rewind_forms.specs.Replies.{IsReply};
 ghost use Rattle.rewind_answers.specs.Stages.{IsOrFollows, Starts, logged, phase_in};
 ghost use Rattle.nd_protocol.specs.Invariant.{KeepsProtocol};
 ghost use Rattle.nd_timeline.specs.Timeline.{cluster_of};
@@ -152,7 +152,7 @@ pub fn cluster(state: &State) -> &Cluster
 
 // Answers and logs a command, and replies.
 fn answer_do(alloc: Global, state: &mut State, command: Command) -> Result<Vec<u8>, AllocError>
-    ensures reply { IfOk result (λ t. TellsOne
+    ensures reply { IfOk result (λ t. IsReply
         (λ v. CommandReply (logged state.old) command v (logged state.new)) t.items) }
     ensures memory { OnErr result (IsOrFollows (CommandReply (logged state.old) command)
         (logged state.old) (logged state.new)) }
@@ -170,14 +170,14 @@ fn answer_asked<R: Threads + Sync>(
     state: &mut State,
     asked: Asked,
 ) -> Result<Vec<u8>, AllocError>
-    ensures reply { IfOk result (λ t. TellsOne
+    ensures reply { IfOk result (λ t. IsReply
         (λ v. AskedReply (logged state.old) asked v (logged state.new)) t.items) }
     ensures memory { OnErr result (IsOrFollows (AskedReply (logged state.old) asked)
         (logged state.old) (logged state.new)) }
 {
     match asked {
         Asked::Do(command) => answer_do(alloc, state, command),
-        Asked::Tell(query) => answer_query(rt, alloc, state, &query),
+        Asked::Look(query) => answer_query(rt, alloc, state, &query),
     }
 }
 
@@ -190,7 +190,7 @@ pub fn answer_later<R: Threads + Sync>(
     value: &Value,
     line: u64,
 ) -> Result<Vec<u8>, AllocError>
-    ensures replies { IfOk result (λ t. TellsOne
+    ensures replies { IfOk result (λ t. IsReply
         (λ v. LineReplies script.old.version (logged script.old.state)
         line (view value.now) (v ∷ []) (phase_in script.new)) t.items) }
     ensures memory { OnErr result (IsOrFollows

@@ -1,7 +1,7 @@
 //! The replies that list kept steps, and what one of them changed.
 ghost use Rattle.std.specs.Prelude.{◌≡◌, Some, IfOk};
 ghost use Rattle.serde_json.specs.Written.{compact_text};
-ghost use Rattle.rewind_forms.specs.Replies.{TellsOne, fault as fault_data};
+ghost use Rattle.rewind_forms.specs.Replies.{IsReply, fault as fault_data};
 ghost use Rattle.rewind_answers.specs.Explained.{ExportReply, StepReply, EffectReply, effect_fault};
 ghost use Rattle.nd_timeline.specs.Faults.{code_of};
 ghost use Rattle.nd_timeline.specs.declared.fault.Fault.TheVariants.{NoSuchPoint};
@@ -13,7 +13,7 @@ use std::alloc::{AllocError, Global};
 
 /// Replies with all kept steps, and the cursor.
 pub(crate) fn answer_export(alloc: Global, timeline: &Timeline) -> Result<Vec<u8>, AllocError>
-    ensures reply { IfOk result (λ t. TellsOne (ExportReply timeline.now) t.items) }
+    ensures reply { IfOk result (λ t. IsReply (ExportReply timeline.now) t.items) }
 {
     let reply = object! {"at": timeline.at(), "ok": true, "steps": KeptSteps(timeline)};
     text_of(alloc, timeline.cluster().graph(), &reply)
@@ -33,7 +33,7 @@ pub(crate) fn answer_step(
     timeline: &Timeline,
     to: u64,
 ) -> Result<Vec<u8>, AllocError>
-    ensures reply { IfOk result (λ t. TellsOne (StepReply timeline.now to) t.items) }
+    ensures reply { IfOk result (λ t. IsReply (StepReply timeline.now to) t.items) }
 {
     if to == 0 {
         return no_such_point(alloc);
@@ -50,7 +50,7 @@ pub(crate) fn answer_step(
 
 // Replies to a query for an effect that cannot be answered. Running out of memory has no reply.
 fn refuse_effect(alloc: Global, fault: EffectFault) -> Result<Vec<u8>, AllocError>
-    ensures reply { IfOk result (λ t. TellsOne (λ v. Some v ≡ effect_fault fault) t.items) }
+    ensures reply { IfOk result (λ t. IsReply (λ v. Some v ≡ effect_fault fault) t.items) }
 {
     match fault {
         EffectFault::Memory => Err(AllocError),
@@ -64,7 +64,7 @@ pub(crate) fn answer_effect(
     timeline: &Timeline,
     to: u64,
 ) -> Result<Vec<u8>, AllocError>
-    ensures reply { IfOk result (λ t. TellsOne (EffectReply timeline.now to) t.items) }
+    ensures reply { IfOk result (λ t. IsReply (EffectReply timeline.now to) t.items) }
 {
     match effect(alloc, timeline, to) {
         Ok(effected) => {

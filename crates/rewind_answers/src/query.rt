@@ -2,7 +2,7 @@
 ghost use Rattle.std.specs.Prelude.{◌≡◌, Some, Ok, IfOk};
 ghost use Rattle.serde_json.specs.Written.{compact_text};
 ghost use Rattle.nd_protocol.specs.Invariant.{IsSettled, KeepsProtocol};
-ghost use Rattle.rewind_forms.specs.Replies.{TellsOne, count as count_data, no_processor as no_processor_data, state as state_reply};
+ghost use Rattle.rewind_forms.specs.Replies.{IsReply, count as count_data, no_processor as no_processor_data, state as state_reply};
 ghost use Rattle.nd_state_json.specs.StateText.{state_data};
 ghost use Rattle.rewind_answers.specs.Answers.{QueryReply, BeforeReply, ViewReply, FrontierReply, PassedReply, SearchReply, search_fault, true_count};
 
@@ -30,7 +30,7 @@ pub(crate) fn no_processor(alloc: Global) -> Result<Vec<u8>, AllocError>
 // Replies with the state of a cluster.
 fn answer_state(alloc: Global, cluster: &Cluster) -> Result<Vec<u8>, AllocError>
     ensures reply { IfOk result (λ t.
-        TellsOne (λ v. v ≡ state_reply (state_data cluster.now)) t.items) }
+        IsReply (λ v. v ≡ state_reply (state_data cluster.now)) t.items) }
 {
     text_of(
         alloc,
@@ -43,7 +43,7 @@ fn answer_state(alloc: Global, cluster: &Cluster) -> Result<Vec<u8>, AllocError>
 fn answer_count(alloc: Global, cluster: &Cluster, point: &Pointstamp) -> Result<Vec<u8>, AllocError>
     requires { IsSettled cluster.now }
     ensures reply { IfOk result (λ t.
-        TellsOne (λ v. v ≡ count_data (true_count cluster.now point.now)) t.items) }
+        IsReply (λ v. v ≡ count_data (true_count cluster.now point.now)) t.items) }
 {
     let Ok(count) = u64::try_from(cluster.count(point)) else {
         unreachable!()
@@ -59,7 +59,7 @@ fn answer_before(
     to: &Pointstamp,
 ) -> Result<Vec<u8>, AllocError>
     ensures reply { IfOk result (λ t.
-        TellsOne (BeforeReply cluster.now.graph from.now to.now) t.items) }
+        IsReply (BeforeReply cluster.now.graph from.now to.now) t.items) }
 {
     let before = cluster.paths().before(from, to);
     text_of(alloc, &NoNames, &object! {"before": before, "ok": true})
@@ -67,7 +67,7 @@ fn answer_before(
 
 // Replies with the view of a processor.
 fn answer_view(alloc: Global, cluster: &Cluster, q: u32) -> Result<Vec<u8>, AllocError>
-    ensures reply { IfOk result (λ t. TellsOne (ViewReply cluster.now q) t.items) }
+    ensures reply { IfOk result (λ t. IsReply (ViewReply cluster.now q) t.items) }
 {
     let q = q as usize;
     if q >= cluster.n() {
@@ -82,7 +82,7 @@ fn answer_view(alloc: Global, cluster: &Cluster, q: u32) -> Result<Vec<u8>, Allo
 
 // Replies with the frontier of a processor's view.
 fn answer_frontier(alloc: Global, cluster: &Cluster, q: u32) -> Result<Vec<u8>, AllocError>
-    ensures reply { IfOk result (λ t. TellsOne (FrontierReply cluster.now q) t.items) }
+    ensures reply { IfOk result (λ t. IsReply (FrontierReply cluster.now q) t.items) }
 {
     let q = q as usize;
     if q >= cluster.n() {
@@ -104,7 +104,7 @@ fn answer_passed(
     point: &Pointstamp,
 ) -> Result<Vec<u8>, AllocError>
     requires { KeepsProtocol cluster.now }
-    ensures reply { IfOk result (λ t. TellsOne (PassedReply cluster.now q point.now) t.items) }
+    ensures reply { IfOk result (λ t. IsReply (PassedReply cluster.now q point.now) t.items) }
 {
     let q = q as usize;
     if q >= cluster.n() {
@@ -121,7 +121,7 @@ fn answer_passed(
 
 // Replies to a search that cannot be answered. Running out of memory outside the workers' walks has no reply.
 fn refuse_search(alloc: Global, fault: &SearchFault) -> Result<Vec<u8>, AllocError>
-    ensures reply { IfOk result (λ t. TellsOne (λ v. Some v ≡ search_fault fault.now) t.items) }
+    ensures reply { IfOk result (λ t. IsReply (λ v. Some v ≡ search_fault fault.now) t.items) }
 {
     match fault {
         SearchFault::Memory => Err(AllocError),
@@ -142,7 +142,7 @@ fn answer_search<R: Threads + Sync>(
     search: &Search,
 ) -> Result<Vec<u8>, AllocError>
     ensures reply { IfOk result (λ t.
-        TellsOne (SearchReply state.now.machine.timeline search.now) t.items) }
+        IsReply (SearchReply state.now.machine.timeline search.now) t.items) }
 {
     let timeline = state.timeline();
     let Search {
@@ -165,7 +165,7 @@ pub fn answer_query<R: Threads + Sync>(
     query: &Query,
 ) -> Result<Vec<u8>, AllocError>
     ensures reply { IfOk result (λ t.
-        TellsOne (QueryReply state.now.machine.timeline query.now) t.items) }
+        IsReply (QueryReply state.now.machine.timeline query.now) t.items) }
 {
     let cluster = cluster(state);
     match query {

@@ -1,6 +1,6 @@
 //! The reply to a question for what can still happen.
 ghost use Rattle.std.specs.Prelude.{◌≡◌, Some, IfOk};
-ghost use Rattle.rewind_forms.specs.Replies.{TellsOne};
+ghost use Rattle.rewind_forms.specs.Replies.{IsReply};
 ghost use Rattle.rewind_answers.specs.Reached.{ReachReply, reach_fault, reached_data};
 
 use nd_cluster::Cluster;
@@ -9,9 +9,9 @@ use rewind_forms::{NoNames, Reach, object, text_of};
 use std::alloc::{AllocError, Global};
 
 // Replies with an answer.
-fn tell_reached(alloc: Global, cluster: &Cluster, reached: &Reached) -> Result<Vec<u8>, AllocError>
+fn reached_reply(alloc: Global, cluster: &Cluster, reached: &Reached) -> Result<Vec<u8>, AllocError>
     ensures reply { IfOk result (λ t.
-        TellsOne (λ v. v ≡ reached_data cluster.now.graph reached.now) t.items) }
+        IsReply (λ v. v ≡ reached_data cluster.now.graph reached.now) t.items) }
 {
     match reached {
         Reached::Way(steps) => {
@@ -28,7 +28,7 @@ fn tell_reached(alloc: Global, cluster: &Cluster, reached: &Reached) -> Result<V
 
 // Replies to a question that is not answered. Running out of memory has no reply.
 fn refuse_reach(alloc: Global, fault: ReachFault) -> Result<Vec<u8>, AllocError>
-    ensures reply { IfOk result (λ t. TellsOne (λ v. Some v ≡ reach_fault fault) t.items) }
+    ensures reply { IfOk result (λ t. IsReply (λ v. Some v ≡ reach_fault fault) t.items) }
 {
     match fault {
         ReachFault::Memory => Err(AllocError),
@@ -42,7 +42,7 @@ pub(crate) fn answer_reach(
     cluster: &Cluster,
     asked: &Reach,
 ) -> Result<Vec<u8>, AllocError>
-    ensures reply { IfOk result (λ t. TellsOne (ReachReply cluster.now asked.now) t.items) }
+    ensures reply { IfOk result (λ t. IsReply (ReachReply cluster.now asked.now) t.items) }
 {
     let Reach {
         when,
@@ -50,7 +50,7 @@ pub(crate) fn answer_reach(
         allowed,
     } = asked;
     match reach(alloc, cluster, *allowed, when, *limit) {
-        Ok(reached) => tell_reached(alloc, cluster, &reached),
+        Ok(reached) => reached_reply(alloc, cluster, &reached),
         Err(fault) => refuse_reach(alloc, fault),
     }
 }

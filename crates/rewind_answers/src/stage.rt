@@ -7,7 +7,7 @@ ghost use Rattle.rewind_lines.specs.Readings.{reading_view};
 ghost use Rattle.rewind_forms.specs.Replies.{line_fault as line_fault_data};
 ghost use Rattle.rewind_answers.specs.Answers.{graph_of, StartReplies, OpeningReplies, Answers, after_fault};
 ghost use Rattle.rewind_forms.specs.Versions.{version_of as version_in};
-ghost use Rattle.rewind_answers.specs.Stages.{IsOrFollows, Tells, phase_of, phase_after};
+ghost use Rattle.rewind_answers.specs.Stages.{IsOrFollows, AreReplies, phase_of, phase_after};
 
 use crate::answer::{First, Started, answer_first, answer_later};
 use nd_session::State;
@@ -57,7 +57,7 @@ fn answer_fault(
     line: u64,
 ) -> Result<Answer, AllocError>
     ensures reply { IfOk result (λ a.
-        Tells (λ replies. replies ≡ option_to_list (line_fault_data fault line)) a.reply) }
+        AreReplies (λ replies. replies ≡ option_to_list (line_fault_data fault line)) a.reply) }
     ensures after { IfOk result (λ a.
         phase_after a.is_last stage.now ≡ after_fault (phase_of stage.now)) }
 {
@@ -75,7 +75,7 @@ fn answer_graph(
     processors: u8,
     value: &Value,
 ) -> Result<Answer, AllocError>
-    ensures answers { IfOk result (λ a. Tells
+    ensures answers { IfOk result (λ a. AreReplies
         (λ replies. StartReplies version processors (graph_of version (view value.now))
         replies (phase_after a.is_last stage.new)) a.reply) }
     ensures memory { OnErr result (stage.new ≡ stage.old) }
@@ -100,7 +100,7 @@ fn answer_opening(
     processors: u8,
     value: &Value,
 ) -> Result<Answer, AllocError>
-    ensures answers { IfOk result (λ a. Tells
+    ensures answers { IfOk result (λ a. AreReplies
         (λ replies. OpeningReplies (version_in (view value.now)) processors (view value.now)
         replies (phase_after a.is_last stage.new)) a.reply) }
     ensures memory { OnErr result (stage.new ≡ stage.old) }
@@ -121,7 +121,7 @@ fn answer_value<R: Threads + Sync>(
     value: &Value,
     line: u64,
 ) -> Result<Answer, AllocError>
-    ensures answers { IfOk result (λ a. Tells
+    ensures answers { IfOk result (λ a. AreReplies
         (λ replies. Answers (phase_of stage.old) line (json (view value.now))
         replies (phase_after a.is_last stage.new)) a.reply) }
     ensures memory { OnErr result (IsOrFollows
@@ -156,7 +156,7 @@ pub fn answer_line<R: Threads + Sync>(
     reading: &Reading,
     line: u64,
 ) -> Result<Answer, AllocError>
-    ensures answers { IfOk result (λ a. Tells
+    ensures answers { IfOk result (λ a. AreReplies
         (λ replies. Answers (phase_of stage.old) line (reading_view reading.now)
         replies (phase_after a.is_last stage.new)) a.reply) }
     ensures memory { OnErr result (IsOrFollows

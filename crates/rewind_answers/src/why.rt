@@ -2,7 +2,7 @@
 ghost use Rattle.std.specs.Prelude.{◌≡◌, ◌↔◌, ◌<◌, Some, IfOk, IsTrue, length};
 ghost use Rattle.nd_view.specs.View.{IsPassedBefore};
 ghost use Rattle.nd_protocol.specs.State.{view};
-ghost use Rattle.rewind_forms.specs.Replies.{TellsOne};
+ghost use Rattle.rewind_forms.specs.Replies.{IsReply};
 ghost use Rattle.rewind_answers.specs.Explained.{WhyReply, ChangesReply, changes_fault, TurnsReply, turns_fault};
 
 use crate::query::no_processor;
@@ -30,7 +30,7 @@ pub(crate) fn answer_why(
     cluster: &Cluster,
     asked: &Question,
 ) -> Result<Vec<u8>, AllocError>
-    ensures reply { IfOk result (λ t. TellsOne (WhyReply cluster.now asked.now) t.items) }
+    ensures reply { IfOk result (λ t. IsReply (WhyReply cluster.now asked.now) t.items) }
 {
     if asked.q >= cluster.n() {
         return no_processor(alloc);
@@ -47,7 +47,7 @@ pub(crate) fn answer_why(
 
 // Replies to a query for changes that cannot be answered. Running out of memory has no reply.
 fn refuse_changes(alloc: Global, fault: ChangesFault) -> Result<Vec<u8>, AllocError>
-    ensures reply { IfOk result (λ t. TellsOne (λ v. Some v ≡ changes_fault fault) t.items) }
+    ensures reply { IfOk result (λ t. IsReply (λ v. Some v ≡ changes_fault fault) t.items) }
 {
     match fault {
         ChangesFault::Memory => Err(AllocError),
@@ -61,7 +61,7 @@ pub(crate) fn answer_changes(
     timeline: &Timeline,
     asked: &ViewChanges,
 ) -> Result<Vec<u8>, AllocError>
-    ensures reply { IfOk result (λ t. TellsOne (ChangesReply timeline.now asked.now) t.items) }
+    ensures reply { IfOk result (λ t. IsReply (ChangesReply timeline.now asked.now) t.items) }
 {
     let ViewChanges { q, point, lo, hi } = asked;
     match changes(alloc, timeline, *q as usize, point, *lo, *hi) {
@@ -79,7 +79,7 @@ pub(crate) fn answer_changes(
 
 // Replies to a query for turns that cannot be answered. Running out of memory has no reply.
 fn refuse_turns(alloc: Global, fault: TurnsFault) -> Result<Vec<u8>, AllocError>
-    ensures reply { IfOk result (λ t. TellsOne (λ v. Some v ≡ turns_fault fault) t.items) }
+    ensures reply { IfOk result (λ t. IsReply (λ v. Some v ≡ turns_fault fault) t.items) }
 {
     match fault {
         TurnsFault::Memory => Err(AllocError),
@@ -93,7 +93,7 @@ pub(crate) fn answer_turns(
     timeline: &Timeline,
     asked: &Turns,
 ) -> Result<Vec<u8>, AllocError>
-    ensures reply { IfOk result (λ t. TellsOne (TurnsReply timeline.now asked.now) t.items) }
+    ensures reply { IfOk result (λ t. IsReply (TurnsReply timeline.now asked.now) t.items) }
 {
     let Turns { when, lo, hi } = asked;
     match turns(alloc, timeline, when, *lo, *hi) {

@@ -5,5 +5,5 @@ pub mod OrdersLemmas
 mod OutboxLemmas
 pub mod Members
 pub mod ReadersLemmas
-pub mod ToldLemmas
+pub mod RunsLemmas
 pub mod Starts

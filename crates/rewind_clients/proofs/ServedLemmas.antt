@@ -20,7 +20,7 @@ use Rattle.nd_session.specs.declared.fault.SessionFault.TheVariants.{Memory}
 use Rattle.rewind_clients.specs.Intake.{Commands}
 use Rattle.rewind_clients.specs.Intakes.{lists_of}
 use Rattle.rewind_clients.specs.Served.{AreDone, AreFresh, IsFresh, asked}
-use Rattle.rewind_clients.specs.Told.{Ended, MayEnd, IsServed, is_full, Told, Tells, commands_of}
+use Rattle.rewind_clients.specs.Runs.{Ended, MayEnd, IsServed, is_full, IsRun, AreLines, commands_of}
 use Rattle.rewind_clients.specs.declared.drive.Done.{Done}
 use Rattle.rewind_clients.specs.declared.drive.Task.{Task}
 
@@ -74,7 +74,7 @@ ended-more fs gs f is all here = subst (All MayEnd) (sym is) (All-append MayEnd 
 
 -- there are lines that may be reported for commands
 pub some-lines : (opening : MachineValue Global) (commands : Commands) (machine : MachineValue Global) → machine.timeline.base ≡ opening.timeline.base → IsHistory [] machine
-    → (lines : List Data) × Tells opening commands lines
+    → (lines : List Data) × AreLines opening commands lines
 some-lines opening commands machine begins history = (
   _,
   record {
@@ -135,7 +135,7 @@ own-entries log k p h e = ap asked h ∙ ap (λ (n : ℕ). commands_of n log) e
 pub driven : (commands : Commands) (ts : List Task) (ds : List Done) (clients : List (ClientValue Global)) (faults : List Ended) (log : List (Receipt Global)) (machine : MachineValue Global) (entered : ℕ)
     → AreFresh commands ts → AreDone ts ds → length ds ≡ length ts → clients ≡ map (λ d. d.client) ds → faults ≡ map (λ d. d.fault) ds
     → All MayEnd faults → (IsTrue (list_any is_full faults) → length log ≡ max_log) → IsWhole log clients entered → IsHistory log machine → (opening : MachineValue Global) → machine.timeline.base ≡ opening.timeline.base
-    → Told opening commands log machine faults
+    → IsRun opening commands log machine faults
 driven commands ts ds clients faults log machine entered fresh done size are faults_are ended full whole history opening begins = record {
   begins = begins;
   history = history;

@@ -17,9 +17,9 @@ use Rattle.rewind_clients.specs.Intakes.{unstarted_view, version_replies}
 use Rattle.rewind_clients.specs.Gathered.{Gathered, StopsIn}
 use Rattle.rewind_clients.specs.Readers.{IsOfReading}
 use Rattle.rewind_clients.specs.Served.{IsOfDriving}
-use Rattle.rewind_clients.specs.Told.{Tells}
+use Rattle.rewind_clients.specs.Runs.{AreLines}
 use Rattle.rewind_clients.specs.Written.{WroteFront, WroteLines}
-use Rattle.rewind_clients.proofs.ToldLemmas.{front-of}
+use Rattle.rewind_clients.proofs.RunsLemmas.{front-of}
 
 -- ---- an outbox at its beginning and its end
 
@@ -105,7 +105,7 @@ version-ends v before old after (Ok u) had ok err = version-told v before after 
 version-ends v before old after (Err e) had ok err = version-stops v before after e (err before had)
 
 -- the opening replies were written, and then the run of the clients failed
-pub stops-driving : (v : Version) (opening : List Data) (m : Logged) (commands : Commands) (lines : List Data) (before : List ℕ) (after : Known) (e : DebugFault) → Tells m.machine commands lines
+pub stops-driving : (v : Version) (opening : List Data) (m : Logged) (commands : Commands) (lines : List Data) (before : List ℕ) (after : Known) (e : DebugFault) → AreLines m.machine commands lines
     → IsOfDriving e → after ≡ Some (before ++ text_of opening) → Writes (script v opening m commands) before after (Err e)
 stops-driving v opening m commands lines before after fault.Memory t h e =
     (opening ++ lines, (lines, t, refl), record { count = length opening; written = e ∙ ap (λ (rs : List Data). Some (before ++ text_of rs)) (sym (take-append_seam opening lines)) })
@@ -118,7 +118,7 @@ stops-driving v opening m commands lines before after fault.Write t h e = absurd
 stops-driving v opening m commands lines before after fault.TooLong t h e = absurd h
 
 -- the lines after them could not be written completely
-stops-telling : (v : Version) (opening : List Data) (m : Logged) (commands : Commands) (lines : List Data) (before : List ℕ) (after : Known) (e : DebugFault) → Tells m.machine commands lines
+stops-telling : (v : Version) (opening : List Data) (m : Logged) (commands : Commands) (lines : List Data) (before : List ℕ) (after : Known) (e : DebugFault) → AreLines m.machine commands lines
     → StopsIn lines (before ++ text_of opening) after e → Writes (script v opening m commands) before after (Err e)
 stops-telling v opening m commands lines before after fault.Memory t h = (opening ++ lines, (lines, t, refl), lines-behind opening lines before after h)
 stops-telling v opening m commands lines before after fault.Write t h = (opening ++ lines, (lines, t, refl), front-behind opening lines before after h)
@@ -129,13 +129,13 @@ stops-telling v opening m commands lines before after fault.TooLong t h = absurd
 stops-telling v opening m commands lines before after fault.Close t h = absurd h
 
 -- everything was written
-script-told : (v : Version) (opening : List Data) (m : Logged) (commands : Commands) (lines : List Data) (before : List ℕ) (after : Known) → Tells m.machine commands lines
+script-told : (v : Version) (opening : List Data) (m : Logged) (commands : Commands) (lines : List Data) (before : List ℕ) (after : Known) → AreLines m.machine commands lines
     → after ≡ Some ((before ++ text_of opening) ++ text_of lines) → Writes (script v opening m commands) before after (Ok tt)
 script-told v opening m commands lines before after t e = (tt, (opening ++ lines, (lines, t, refl), e ∙ ap Some (joined before opening lines)))
 
 -- not everything was written
 pub script-ends : (v : Version) (opening : List Data) (m : Logged) (commands : Commands) (lines : List Data) (before : List ℕ) (old after : Known) (r : Result (Unit {0}) DebugFault)
-    → Tells m.machine commands lines → old ≡ Some (before ++ text_of opening) → OnOk r ((b : List ℕ) → old ≡ Some b → after ≡ Some (b ++ text_of lines))
+    → AreLines m.machine commands lines → old ≡ Some (before ++ text_of opening) → OnOk r ((b : List ℕ) → old ≡ Some b → after ≡ Some (b ++ text_of lines))
     → IfErr r (λ e. (b : List ℕ) → old ≡ Some b → StopsIn lines b after e) → Writes (script v opening m commands) before after r
 script-ends v opening m commands lines before old after (Ok u) t had ok err = script-told v opening m commands lines before after t (ok _ had)
 script-ends v opening m commands lines before old after (Err e) t had ok err = stops-telling v opening m commands lines before after e t (err _ had)

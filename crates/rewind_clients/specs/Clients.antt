@@ -6,7 +6,7 @@ use Rattle.rewind_lines.specs.Texts.{text_of}
 use Rattle.rewind_lines.specs.declared.fault.DebugFault.{DebugFault}
 use Rattle.rewind_lines.specs.declared.fault.DebugFault.TheVariants as fault
 use Rattle.rewind_clients.specs.Intake.{Intake, Reads, nothing, opened, refused_graph, faulty_line, script}
-use Rattle.rewind_clients.specs.Told.{Tells}
+use Rattle.rewind_clients.specs.Runs.{AreLines}
 use Rattle.rewind_clients.specs.Written.{WroteFront, WroteLines}
 
 -- the reader had `input` and has `left`: everything was read, at most `limit` bytes, and `intake` is the result of reading the
@@ -31,7 +31,7 @@ Replies nothing replies = replies ≡ []
 Replies (opened version reply) replies = replies ≡ reply ∷ []
 Replies (refused_graph reply) replies = replies ≡ reply ∷ []
 Replies (faulty_line reply) replies = replies ≡ reply ∷ []
-Replies (script version opening machine commands) replies = (lines : List Data) × Tells machine.machine commands lines × (replies ≡ opening ++ lines)
+Replies (script version opening machine commands) replies = (lines : List Data) × AreLines machine.machine commands lines × (replies ≡ opening ++ lines)
 
 -- the run ends well with this intake; `IsRefused` and `IsFaulty` are those that end it with Graph and with Script
 abbrev pub EndsWell : Intake → Type 0

@@ -6,5 +6,5 @@ pub mod Numbers
 pub mod Orders
 pub mod Readers
 pub mod Served
-pub mod Told
+pub mod Runs
 pub mod Written

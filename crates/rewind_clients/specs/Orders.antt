@@ -12,7 +12,7 @@ use Rattle.rewind_forms.specs.declared.version.Version.{Version}
 use Rattle.rewind_forms.specs.declared.form.Form.{Form}
 use Rattle.rewind_forms.specs.declared.form.Form.TheVariants.{Step, Command, Query}
 use Rattle.rewind_forms.specs.declared.asked.Asked.{Asked}
-use Rattle.rewind_forms.specs.declared.asked.Asked.TheVariants.{Do, Tell}
+use Rattle.rewind_forms.specs.declared.asked.Asked.TheVariants.{Do, Look}
 use Rattle.rewind_forms.specs.declared.fault.LineFault.{LineFault}
 use Rattle.rewind_forms.specs.declared.fault.LineFault.TheVariants.{LineTooLong, BadLine, BadShape}
 use Rattle.rewind_clients.specs.Numbers.{Named, named_of}
@@ -30,13 +30,13 @@ is_query (Some (Query form)) = true
 -- whether the line asks for a query
 abbrev pub asks_query : Asked → Bool
 asks_query (Do command) = false
-asks_query (Tell query) = true
+asks_query (Look query) = true
 
 -- what a line asks for that names an existing client; a query is refused, since queries belong to scripts of one client
 abbrev pub of_client : ℕ → Bool → Result Asked LineFault → Result Order OrderFault
 of_client client true asked = Err OneClientOnly
 of_client client false (Ok (Do command)) = Ok (record { client = client; command = command })
-of_client client false (Ok (Tell query)) = Err OneClientOnly
+of_client client false (Ok (Look query)) = Err OneClientOnly
 of_client client false (Err e) = Err (Line e)
 
 -- the form is tested before the client's number, and all names and times after both

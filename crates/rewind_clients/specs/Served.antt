@@ -6,7 +6,7 @@ use Rattle.nd_session.specs.Faults.{CommandMayFail}
 use Rattle.nd_session.specs.declared.receipt.Receipt.{Receipt}
 use Rattle.rewind_lines.specs.declared.fault.DebugFault.{DebugFault}
 use Rattle.rewind_lines.specs.declared.fault.DebugFault.TheVariants as fault
-use Rattle.rewind_clients.specs.Told.{IsServed, MayEnd}
+use Rattle.rewind_clients.specs.Runs.{IsServed, MayEnd}
 use Rattle.rewind_clients.specs.declared.drive.Done.{Done}
 use Rattle.rewind_clients.specs.declared.drive.Task.{Task}
 

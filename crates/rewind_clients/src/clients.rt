@@ -9,7 +9,7 @@ ghost use Rattle.rewind_clients.specs.Intakes.{intake_view, script_view};
 use crate::drive::drive_session;
 use crate::intake::{Intake, Script};
 use crate::reader::read_script;
-use crate::tell::{tell_log, tell_one, tell_opening, tell_version};
+use crate::write::{write_log, write_opening, write_reply, write_version};
 use nd_history::Gate;
 use nd_time::limits::MAX_INPUT;
 use rewind_lines::{DebugFault, Options, Sink, Source};
@@ -34,9 +34,9 @@ fn answer_script<R: Threads + Wait + Sync, T: Sink, G: Gate>(
 {
     // This call's clauses say that the `State` began at an initial state.
     let _ = script.state.timeline();
-    tell_opening(alloc, sink, script.opened, &script.reply)?;
+    write_opening(alloc, sink, script.opened, &script.reply)?;
     let driven = drive_session(rt, alloc, script.state, script.commands, gate)?;
-    tell_log(
+    write_log(
         alloc,
         sink,
         driven.log.timeline.cluster().graph(),
@@ -60,13 +60,13 @@ fn answer<R: Threads + Wait + Sync, T: Sink, G: Gate>(
     ensures write { T.failed sink.new ≡ is_write_fault result }
 {
     match intake {
-        Intake::Unstarted(opened) => tell_version(alloc, sink, opened),
+        Intake::Unstarted(opened) => write_version(alloc, sink, opened),
         Intake::Refused(reply) => {
-            tell_one(alloc, sink, &reply)?;
+            write_reply(alloc, sink, &reply)?;
             Err(DebugFault::Graph)
         }
         Intake::Faulty(fault) => {
-            tell_one(alloc, sink, &fault)?;
+            write_reply(alloc, sink, &fault)?;
             Err(DebugFault::Script)
         }
         Intake::Whole(script) => answer_script(rt, alloc, sink, script, gate),

@@ -4,7 +4,7 @@ ghost use Rattle.std.specs.List.{list_any};
 ghost use Rattle.nd_session.specs.Faults.{CommandMayFail};
 ghost use Rattle.rewind_clients.specs.Intakes.{lists_of};
 ghost use Rattle.rewind_clients.specs.Served.{AreDone, AreFresh, EndsOtherwise, IsDone, IsOfDriving, asked};
-ghost use Rattle.rewind_clients.specs.Told.{is_full as is_full_in, IsServed, MayEnd, Told, machine_of};
+ghost use Rattle.rewind_clients.specs.Runs.{is_full as is_full_in, IsServed, MayEnd, IsRun, machine_of};
 
 use crate::gated::Gated;
 use crate::same::same_graph;
@@ -192,7 +192,7 @@ pub fn drive_session<R: Threads + Wait + Sync, G: Gate>(
     gate: &G,
 ) -> Result<Driven, DebugFault>
     ensures told { IfOk result (λ d.
-        Told state.machine (lists_of commands.items)
+        IsRun state.machine (lists_of commands.items)
         d.log.entries.items (machine_of d.log) d.faults.items) }
     ensures kind { IfErr result IsOfDriving }
 {

@@ -1,6 +1,6 @@
 //! A session whose clients call a gate before each command.
 ghost use Rattle.std.specs.Prelude.{◌≡◌, ◌++◌, ◌∷◌, [], length, IfOk, IfErr, OnErr};
-ghost use Rattle.nd_session.specs.Clients.{IsTold};
+ghost use Rattle.nd_session.specs.Clients.{IsReceiptFor};
 ghost use Rattle.nd_session.specs.Faults.{CommandMayFail};
 
 use nd_history::Gate;
@@ -40,7 +40,7 @@ impl<'a, G: Gate> Gated<'a, G> {
     ) -> Result<Receipt, SessionFault>
         requires called { G.called self.now.gate.now client.old.number
             (length client.old.receipts) }
-        ensures told { IfOk result (IsTold client.old command) }
+        ensures told { IfOk result (IsReceiptFor client.old command) }
         ensures kept { IfOk result (λ r.
             client.new ≡ record client.old { receipts = client.old.receipts ++ r ∷ [] }) }
         ensures same { OnErr result (client.new ≡ client.old) }

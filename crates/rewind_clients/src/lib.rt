@@ -10,6 +10,6 @@ mod numbers;
 mod order;
 mod reader;
 mod same;
-mod tell;
+mod write;
 
 pub use clients::{debug_clients, debug_clients_within};

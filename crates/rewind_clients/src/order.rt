@@ -54,7 +54,7 @@ fn is_query(version: Version, value: &Value, asked: &Result<Asked, LineFault>) -
 {
     match asked {
         Ok(Asked::Do(_)) => false,
-        Ok(Asked::Tell(_)) => true,
+        Ok(Asked::Look(_)) => true,
         Err(_) => matches!(Form::of(version, value), Some(Form::Query(_))),
     }
 }

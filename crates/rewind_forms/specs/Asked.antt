@@ -12,7 +12,7 @@ use Rattle.rewind_forms.specs.declared.version.Version.{Version}
 use Rattle.rewind_forms.specs.declared.form.Form.{Form}
 use Rattle.rewind_forms.specs.declared.form.Form.TheVariants.{Step, Command, Query}
 use Rattle.rewind_forms.specs.declared.asked.Asked.{Asked}
-use Rattle.rewind_forms.specs.declared.asked.Asked.TheVariants.{Do, Tell}
+use Rattle.rewind_forms.specs.declared.asked.Asked.TheVariants.{Do, Look}
 use Rattle.rewind_forms.specs.declared.fault.LineFault.{LineFault}
 use Rattle.rewind_forms.specs.declared.fault.LineFault.TheVariants.{BadShape}
 
@@ -20,7 +20,7 @@ use Rattle.rewind_forms.specs.declared.fault.LineFault.TheVariants.{BadShape}
 abbrev pub asked_as : Version → Dataflow → Data → Form → Result Asked LineFault
 asked_as v g d (Step form) = after (step_of v g form d) (λ step. Ok (Do (Forward step)))
 asked_as v g d (Command form) = after (command_of v g form d) (λ command. Ok (Do command))
-asked_as v g d (Query form) = after (query_of v g form d) (λ query. Ok (Tell query))
+asked_as v g d (Query form) = after (query_of v g form d) (λ query. Ok (Look query))
 
 -- what a line of a script of this version asks for, against a graph
 unfoldable pub asked_of : Version → Dataflow → Data → Result Asked LineFault

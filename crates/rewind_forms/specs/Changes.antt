@@ -2,7 +2,7 @@
 use Rattle.std.specs.Prelude.{List, [], ◌∷◌, map}
 use Rattle.serde_json.specs.Data.{Data}
 use Rattle.nd_state_json.specs.StateText.{row, natural, whole}
-use Rattle.nd_history.specs.declared.told.Changed.{Changed}
+use Rattle.nd_history.specs.declared.change_list.Changed.{Changed}
 
 -- [position,n], n being the entry there
 abbrev pub changed_data : Changed → Data

@@ -15,8 +15,8 @@ abbrev pub ObjectsAreReadBack : Type 0
 ObjectsAreReadBack = (g : Dataflow) (x : Step Global) → IsFaultless g → NamesFit g x → NumbersFit x → read_of g (object_of g x) ≡ Ok x
 
 -- two such steps with the same object are equal
-abbrev pub ObjectsTellSteps : Type 0
-ObjectsTellSteps =
+abbrev pub ObjectsDetermineSteps : Type 0
+ObjectsDetermineSteps =
     (g : Dataflow) (x y : Step Global) → IsFaultless g → NamesFit g x → NumbersFit x → NamesFit g y → NumbersFit y
     → object_of g x ≡ object_of g y → x ≡ y
 

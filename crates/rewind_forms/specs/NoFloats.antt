@@ -51,7 +51,7 @@ use Rattle.nd_why.specs.declared.answer.Held.TheVariants.{Records, Request, Toke
 use Rattle.nd_why.specs.declared.answer.Unheard.{Unheard}
 use Rattle.nd_why.specs.declared.answer.Unheard.TheVariants.{Unsent, Queued}
 use Rattle.nd_cluster.specs.declared.candidate.Candidate.{Candidate}
-use Rattle.nd_history.specs.declared.told.Changed.{Changed}
+use Rattle.nd_history.specs.declared.change_list.Changed.{Changed}
 
 pub no_float-row : {A : Type 0} (f : A → Data) (xs : List A) → ((x : A) → has_float (f x) ≡ false) → has_float (row (map f xs)) ≡ false
 no_float-row f [] h = refl

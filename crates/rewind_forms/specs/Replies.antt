@@ -21,8 +21,8 @@ use Rattle.rewind_forms.specs.declared.fault.LineFault.{LineFault}
 use Rattle.rewind_forms.specs.declared.fault.LineFault.TheVariants as line
 
 -- the text is that of a reply which may be given
-abbrev pub TellsOne : (Data → Type 0) → List ℕ → Type 0
-TellsOne May text = (reply : Data) × May reply × (text ≡ compact_text reply)
+abbrev pub IsReply : (Data → Type 0) → List ℕ → Type 0
+IsReply May text = (reply : Data) × May reply × (text ≡ compact_text reply)
 
 -- {"code":n,"error":name}
 abbrev pub fault : Code → Data

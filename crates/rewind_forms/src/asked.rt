@@ -19,7 +19,7 @@ pub enum Asked {
     /// A command.
     Do(Command),
     /// A query.
-    Tell(Query),
+    Look(Query),
 }
 
 /// Returns what the value asks for in a script of this version, for the graph.
@@ -46,7 +46,7 @@ pub fn asked_of(
         }
         Form::Query(form) => {
             let query = query_of(alloc, version, graph, form, value)?;
-            Ok(Asked::Tell(query))
+            Ok(Asked::Look(query))
         }
     }
 }

@@ -3,7 +3,7 @@ ghost use Rattle.std.specs.Prelude.{◌≡◌, Some, IfOk, refl};
 ghost use Rattle.serde_json.specs.Written.{compact_text};
 ghost use Rattle.rewind_forms.specs.Errors.{error_data};
 ghost use Rattle.rewind_forms.specs.NoFloats.{no_float-error, no_float-refused, no_float-reply, no_float-step_refused, no_float-stop};
-ghost use Rattle.rewind_forms.specs.Replies.{fault, refused, reply_data, step_refused, stop, faulty as faulty_data, line_fault as line_fault_data, version as version_data, graph as graph_data, TellsOne};
+ghost use Rattle.rewind_forms.specs.Replies.{fault, refused, reply_data, step_refused, stop, faulty as faulty_data, line_fault as line_fault_data, version as version_data, graph as graph_data, IsReply};
 ghost use Rattle.rewind_forms.specs.Versions.{number_of};
 
 use crate::shown::{Names, NoNames, Shown};
@@ -197,7 +197,7 @@ pub fn version_reply(alloc: Global, version: Version) -> Result<Vec<u8>, AllocEr
 /// Out of memory has no reply: it is returned as the error.
 pub fn line_fault(alloc: Global, fault: LineFault, line: u64) -> Result<Vec<u8>, AllocError>
     ensures reply { IfOk result (λ t.
-        TellsOne (λ reply. Some reply ≡ line_fault_data fault line) t.items) }
+        IsReply (λ reply. Some reply ≡ line_fault_data fault line) t.items) }
 {
     match fault {
         LineFault::Memory => Err(AllocError),

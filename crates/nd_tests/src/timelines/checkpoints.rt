@@ -4,7 +4,7 @@ use crate::timelines::memory::Heap;
 use crate::timelines::run_all;
 use nd_breaks::Breaks;
 use nd_cluster::{Next, Step, Values};
-use nd_examples::{ENDLESS, Told, is_state, start, state_text, step_of};
+use nd_examples::{ENDLESS, StepLine, is_state, start, state_text, step_of};
 use nd_testing::{MANY, Refusing};
 use nd_timeline::Timeline;
 use std::alloc::{Allocator, Global};
@@ -13,7 +13,7 @@ use std::alloc::{Allocator, Global};
 fn looped<A: Allocator + Copy>(json: Global, alloc: A) -> Option<Timeline<A>> {
     let mut timeline = Timeline::new(alloc, start(json, alloc, ENDLESS, 1)?).ok()?;
     for value in [&[1_i64], &[2]] {
-        let told = Told::Feed(0, "a", value, Next::Next);
+        let told = StepLine::Feed(0, "a", value, Next::Next);
         let step = step_of(alloc, timeline.cluster().graph(), &told)?;
         timeline.forward(&step).ok()?;
     }

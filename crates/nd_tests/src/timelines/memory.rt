@@ -6,7 +6,7 @@ use crate::timelines::run_all;
 use nd_breaks::{Atom, Breaks};
 use nd_cluster::Next;
 use nd_examples::{
-    EXCHANGE, HELD_MOVED, LINE, SUM_NOTIFIED, Script, Sent, TRACED, Told, point, processors_of,
+    EXCHANGE, HELD_MOVED, LINE, SUM_NOTIFIED, Script, Sent, StepLine, TRACED, point, processors_of,
     start, step_of,
 };
 use nd_history::{Snapshot, changes, effect, turns};
@@ -22,35 +22,35 @@ const EXCHANGED: Script = (
     EXCHANGE,
     2,
     &[
-        Told::Feed(0, "a", &[5, 7], Next::Close),
-        Told::Feed(1, "a", &[5], Next::Close),
-        Told::All(0),
-        Told::Receive(0, 1),
-        Told::Take(1, "az", &[0], 5),
-        Told::All(1),
-        Told::Receive(0, 0),
-        Told::Receive(1, 0),
-        Told::Take(1, "az", &[0], 5),
-        Told::Take(1, "az", &[0], 7),
-        Told::All(1),
-        Told::Receive(1, 0),
-        Told::Receive(1, 1),
-        Told::Receive(1, 1),
+        StepLine::Feed(0, "a", &[5, 7], Next::Close),
+        StepLine::Feed(1, "a", &[5], Next::Close),
+        StepLine::All(0),
+        StepLine::Receive(0, 1),
+        StepLine::Take(1, "az", &[0], 5),
+        StepLine::All(1),
+        StepLine::Receive(0, 0),
+        StepLine::Receive(1, 0),
+        StepLine::Take(1, "az", &[0], 5),
+        StepLine::Take(1, "az", &[0], 7),
+        StepLine::All(1),
+        StepLine::Receive(1, 0),
+        StepLine::Receive(1, 1),
+        StepLine::Receive(1, 1),
     ],
 );
 
 /// A record that a run takes, broadcasts and receives.
-pub static ONE: Script = (LINE, 1, &[Told::Feed(0, "a", &[5], Next::Close)]);
+pub static ONE: Script = (LINE, 1, &[StepLine::Feed(0, "a", &[5], Next::Close)]);
 
 /// The steps of a run on it.
 pub const ALL: Script = (
     LINE,
     1,
     &[
-        Told::Feed(0, "a", &[5], Next::Close),
-        Told::Take(0, "az", &[0], 5),
-        Told::All(0),
-        Told::Receive(0, 0),
+        StepLine::Feed(0, "a", &[5], Next::Close),
+        StepLine::Take(0, "az", &[0], 5),
+        StepLine::All(0),
+        StepLine::Receive(0, 0),
     ],
 );
 
@@ -59,9 +59,9 @@ const SENT: Script = (
     TRACED,
     1,
     &[
-        Told::Feed(0, "a", &[7], Next::Close),
-        Told::Take(0, "ax", &[0], 7),
-        Told::Send(
+        StepLine::Feed(0, "a", &[7], Next::Close),
+        StepLine::Take(0, "ax", &[0], 7),
+        StepLine::Send(
             0,
             "x",
             Sent {
@@ -72,10 +72,10 @@ const SENT: Script = (
                 dest: Some(0),
             },
         ),
-        Told::Keep(0, "x", &[0], &[3]),
-        Told::Release(0, "x", &[0], None),
-        Told::All(0),
-        Told::Receive(0, 0),
+        StepLine::Keep(0, "x", &[0], &[3]),
+        StepLine::Release(0, "x", &[0], None),
+        StepLine::All(0),
+        StepLine::Receive(0, 0),
     ],
 );
 

@@ -4,7 +4,7 @@
 use crate::timelines::memory::{ALL, Heap, ONE, kept};
 use crate::timelines::run_all;
 use nd_breaks::Breaks;
-use nd_examples::{Told, point, step_of};
+use nd_examples::{StepLine, point, step_of};
 use nd_testing::{Refusing, unasked};
 use nd_timeline::Timeline;
 use std::alloc::{Allocator, Global};
@@ -52,7 +52,7 @@ fn more<A: Allocator + Copy>(alloc: A, base: &Timeline<A>) -> Option<Timeline<A>
     copy.jump(2).ok()?;
     copy.back().ok()?;
     copy.redo().ok()?;
-    let step = step_of(alloc, copy.cluster().graph(), &Told::All(0))?;
+    let step = step_of(alloc, copy.cluster().graph(), &StepLine::All(0))?;
     copy.forward(&step).ok()?;
     Some(copy)
 }

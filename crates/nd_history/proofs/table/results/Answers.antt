@@ -1,7 +1,7 @@
 use Rattle.std.proofs.Common.{◌≡◌, Some, None, length, slice_get, inl, inr, sym, ap, subst, ◌∙◌, arith, rules}
 use Rattle.std.proofs.lemmas.Option.{slice_get-get_or, slice_get_within, same_Some}
 use Rattle.std.proofs.lemmas.Bool.{cases_lt}
-use Rattle.nd_history.specs.Works.{IsToldBy}
+use Rattle.nd_history.specs.Works.{HasResultBy}
 use Rattle.nd_history.specs.declared.work.Searched.{Searched}
 use Rattle.nd_history.proofs.Elements.{refilled}
 use Rattle.nd_history.proofs.table.results.Goals as goal
@@ -42,7 +42,7 @@ loop-searched-preserved g c =
                 let item : slice_get c.args.works.now c.loop-searched.searched-index ≡ Some c.searched-item.result =
                 slice_get-get_or c.args.works.now c.loop-searched.searched-index c.searched-item.result c.loop-searched-test.true ∙ ap Some (sym c.searched-item.is) in
                 let mine : s ≡ c.searched-item.result = same_Some s c.searched-item.result (sym there ∙ (ap (λ i. slice_get c.args.works.now i) last ∙ item)) in
-                c.put.ensures.all_in j r (subst (λ (s : Searched g.row.A.Denot). IsToldBy s j r) mine told) here
+                c.put.ensures.all_in j r (subst (λ (s : Searched g.row.A.Denot). HasResultBy s j r) mine told) here
           ];
     }
 

@@ -1,5 +1,5 @@
 use Rattle.std.proofs.Common.{◌≡◌, ◌<◌, ◌≤◌, ℕ, Option, Some, None, slice_get, vec_len, vec_capacity}
-use Rattle.nd_history.specs.Works.{AreTold, IsToldBy}
+use Rattle.nd_history.specs.Works.{AreOfWorkers, HasResultBy}
 use Rattle.nd_history.specs.declared.work.Searched.{Searched}
 use Rattle.nd_history.proofs.table.results.Given as goal
 
@@ -13,6 +13,6 @@ invariant-loop g l = record {
 abbrev pub invariant-loop-searched : goal.invariant-loop-searched
 invariant-loop-searched g l = record {
   counted : vec_len l.results ≡ l.pieces;
-  told : AreTold l.works l.results.items;
-  all_in : (j k : ℕ) (r : Option ℕ) (s : Searched g.row.A.Denot) → k < l.searched-index → slice_get l.works k ≡ Some s → IsToldBy s j r → slice_get l.results.items j ≡ Some None → ⊥;
+  told : AreOfWorkers l.works l.results.items;
+  all_in : (j k : ℕ) (r : Option ℕ) (s : Searched g.row.A.Denot) → k < l.searched-index → slice_get l.works k ≡ Some s → HasResultBy s j r → slice_get l.results.items j ≡ Some None → ⊥;
 }

@@ -1,7 +1,7 @@
 use Rattle.std.proofs.Common.{◌≡◌, ℕ, ℤ, subst}
 use Rattle.nd_history.specs.ViewChanges.{entry_after}
 use Rattle.nd_history.specs.History.{IsHistory}
-use Rattle.nd_history.proofs.ToldLemmas.{told_of}
+use Rattle.nd_history.proofs.ChangeListLemmas.{told_of}
 use Rattle.nd_history.proofs.view_history.changes.Goals as goal
 
 pub returns-clause-told : goal.returns-clause-told

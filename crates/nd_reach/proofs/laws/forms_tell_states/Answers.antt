@@ -1,5 +1,5 @@
-use Rattle.nd_reach.proofs.States.{forms_tell}
-use Rattle.nd_reach.proofs.laws.forms_tell_states.Goals as goal
+use Rattle.nd_reach.proofs.States.{forms_determine}
+use Rattle.nd_reach.proofs.laws.forms_determine_states.Goals as goal
 
 pub returns : goal.returns
-returns c = forms_tell
+returns c = forms_determine

@@ -1,46 +1,46 @@
 use Rattle.std.proofs.Common.{◌≡◌, ◌<◌, ◌≤◌, ◌+◌, ◌-◌, List, length, sym, ◌∙◌, arith}
 use Rattle.nd_protocol.specs.State.{ClusterState}
 use Rattle.nd_steps.specs.declared.change.Change.{Change}
-use Rattle.nd_steps.specs.Changes.{change_at}
-use Rattle.nd_steps.proofs.RunsLemmas.{same_at, state_none, all_made, fits_now, next_here, fits_here, back_here}
+use Rattle.nd_steps.proofs.RunsLemmas.{read_as, state_none, all_made, fits_now, next_here, fits_here, back_here}
 use Rattle.nd_steps.proofs.run.make_all.Goals as goal
 
 pub loop-i-init : goal.loop-i-init
 loop-i-init g c = sym (state_none c.args.parts.now c.args.changes.now)
 
-pub make_at-requires : goal.make_at-requires
-make_at-requires g c =
-    let s : ClusterState = c.args.parts.now in
+pub make-requires : goal.make-requires
+make-requires g c =
     let cs : List Change = c.args.changes.now in
-    let i = c.loop-i.i in
-    let lt : i < length cs = omega (arith, c.loop-i-test.true, c.len-count.ensures) in
-    record { there = lt; fits = fits_now s cs c.requires i (change_at cs i) (same_at cs i _ _ lt) lt c.loop-i.parts c.loop-i.invariant }
+    let lt : c.loop-i.i < length cs = omega (arith, c.loop-i-test.true, c.len-count.ensures) in
+    let d : Change = c.deref.result.now in
+    fits_now c.args.parts.now cs c.requires c.loop-i.i d (read_as cs c.loop-i.i c.at-change.result d c.deref.ensures c.at-change.ensures) lt c.loop-i.parts c.loop-i.invariant
 
 pub loop-i-preserved : goal.loop-i-preserved
 loop-i-preserved g c =
     let s : ClusterState = c.args.parts.now in
     let cs : List Change = c.args.changes.now in
     let lt : c.loop-i.i < length cs = omega (arith, c.loop-i-test.true, c.len-count.ensures) in
-    let i = c.loop-i.i in
-    c.in-Ok.ensures.ok ∙ next_here s cs c.requires i (change_at cs i) (same_at cs i _ _ lt) lt c.loop-i.parts c.loop-i.invariant
+    let d : Change = c.deref.result.now in
+    c.in-Ok.ensures.ok ∙ next_here s cs c.requires c.loop-i.i d (read_as cs c.loop-i.i c.at-change.result d c.deref.ensures c.at-change.ensures) lt c.loop-i.parts c.loop-i.invariant
 
 pub undo-requires : goal.undo-requires
 undo-requires g c =
     let s : ClusterState = c.args.parts.now in
     let cs : List Change = c.args.changes.now in
     let lt : c.loop-j.j - 1 < length cs = omega (arith, c.loop-i-test.true, c.len-count.ensures, c.loop-j.invariant.before, c.loop-j-test.true) in
+    let d : Change = c.deref-in-loop-j.result.now in
     let above : c.loop-j.j ≡ c.loop-j.j - 1 + 1 = omega (arith, c.loop-j-test.true) in
-    fits_here s cs c.requires (c.loop-j.j - 1) c.get-past.result c.get-past.ensures lt c.loop-j.parts c.loop-j.j above c.loop-j.invariant.now
+    fits_here s cs c.requires (c.loop-j.j - 1) d (read_as cs (c.loop-j.j - 1) c.at-past.result d c.deref-in-loop-j.ensures c.at-past.ensures) lt c.loop-j.parts c.loop-j.j above c.loop-j.invariant.now
 
 pub loop-j-preserved : goal.loop-j-preserved
 loop-j-preserved g c =
     let s : ClusterState = c.args.parts.now in
     let cs : List Change = c.args.changes.now in
     let lt : c.loop-j.j - 1 < length cs = omega (arith, c.loop-i-test.true, c.len-count.ensures, c.loop-j.invariant.before, c.loop-j-test.true) in
+    let d : Change = c.deref-in-loop-j.result.now in
     let above : c.loop-j.j ≡ c.loop-j.j - 1 + 1 = omega (arith, c.loop-j-test.true) in
     record {
       now = c.in-Ok-undo.ensures.ok
-          ∙ back_here s cs c.requires (c.loop-j.j - 1) c.get-past.result c.get-past.ensures lt c.loop-j.parts c.loop-j.j above c.loop-j.invariant.now;
+          ∙ back_here s cs c.requires (c.loop-j.j - 1) d (read_as cs (c.loop-j.j - 1) c.at-past.result d c.deref-in-loop-j.ensures c.at-past.ensures) lt c.loop-j.parts c.loop-j.j above c.loop-j.invariant.now;
       before = omega (arith, c.loop-j.invariant.before);
     }
 

@@ -5,8 +5,8 @@ use Rattle.rewind_answers.proofs.reached.answer_reach.Goals as goal
 
 pub returns-in-Ok : goal.returns-in-Ok
 returns-in-Ok c = record {
-  reply = tells_so (λ v. v ≡ reached_data c.args.cluster.now.graph c.in-Ok.reached) (ReachReply c.args.cluster.now c.args.asked.now) c.tell_reached.result
-      (λ d same. reached c.in-Ok.reached c.in-Ok.ensures.may c.in-Ok.ensures.reached c.in-Ok.ensures.exact same) c.tell_reached.ensures.reply;
+  reply = tells_so (λ v. v ≡ reached_data c.args.cluster.now.graph c.in-Ok.reached) (ReachReply c.args.cluster.now c.args.asked.now) c.reached_reply.result
+      (λ d same. reached c.in-Ok.reached c.in-Ok.ensures.may c.in-Ok.ensures.reached c.in-Ok.ensures.exact same) c.reached_reply.ensures.reply;
 }
 
 pub returns-in-Err : goal.returns-in-Err

@@ -1,7 +1,7 @@
 use Rattle.std.proofs.Common.{rules, tests}
 use Rattle.std.proofs.lemmas.Iterator.{YieldsList-from_slice}
 use Rattle.std.proofs.lemmas.Iterator.Search.{any_from_yields_List}
-use Rattle.rewind_clients.specs.Told.{is_full}
+use Rattle.rewind_clients.specs.Runs.{is_full}
 use Rattle.rewind_clients.proofs.drive.any_full.Goals as goal
 
 pub returns : goal.returns

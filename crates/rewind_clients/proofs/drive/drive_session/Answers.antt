@@ -5,7 +5,7 @@ use Rattle.nd_time.specs.Limits.{max_log}
 use Rattle.std.specs.List.{list_any}
 use Rattle.std.specs.Prelude.{IsTrue}
 use Rattle.rewind_clients.specs.Intakes.{lists_of}
-use Rattle.rewind_clients.specs.Told.{is_full, machine_of}
+use Rattle.rewind_clients.specs.Runs.{is_full, machine_of}
 use Rattle.rewind_clients.proofs.ServedLemmas.{driven}
 use Rattle.rewind_clients.proofs.Starts.{same_start}
 use Rattle.rewind_clients.proofs.drive.drive_session.Goals.{else-len-lt-MAX_LOG-via-then-len-lt-MAX_LOG+else-any_full, else-len-lt-MAX_LOG-via-else-len-lt-MAX_LOG}

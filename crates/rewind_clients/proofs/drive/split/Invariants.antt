@@ -1,5 +1,5 @@
 use Rattle.std.proofs.Common.{◌≡◌, All, map}
-use Rattle.rewind_clients.specs.Told.{MayEnd}
+use Rattle.rewind_clients.specs.Runs.{MayEnd}
 use Rattle.rewind_clients.proofs.drive.split.Given as goal
 
 abbrev pub invariant-loop-one : goal.invariant-loop-one

@@ -1,4 +1,4 @@
-use Rattle.nd_session.proofs.Told.{told, command_may_fail}
+use Rattle.nd_session.proofs.ReceiptLemmas.{told, command_may_fail}
 use Rattle.nd_session.proofs.session.Session.command.Goals as goal
 
 pub returns-clause-told : goal.returns-clause-told

@@ -1,4 +1,4 @@
-use Rattle.nd_session.proofs.Told.{seen, copy_may_fail}
+use Rattle.nd_session.proofs.ReceiptLemmas.{seen, copy_may_fail}
 use Rattle.nd_session.proofs.session.Session.copy.Goals as goal
 
 pub returns-clause-seen : goal.returns-clause-seen

@@ -3,7 +3,7 @@ use Rattle.nd_session.specs.declared.receipt.Receipt.{Receipt}
 use Rattle.nd_session.specs.Clients.{ClientValue, HoldsLast, IsKnown}
 use Rattle.nd_session.specs.Faults.{CommandFails}
 use Rattle.nd_session.proofs.Logs.{refused, passed_on}
-use Rattle.nd_session.proofs.Told.{own_grows, known_fails}
+use Rattle.nd_session.proofs.ReceiptLemmas.{own_grows, known_fails}
 use Rattle.nd_session.proofs.shared.Shared.command.Goals as goal
 
 pub returns-in_err-reserve-clause-fails : goal.returns-in_err-reserve-clause-fails

@@ -1,7 +1,7 @@
 use Rattle.std.proofs.Common.{rules}
 use Rattle.nd_session.specs.Faults.{TestFails}
 use Rattle.nd_session.proofs.Logs.{refused}
-use Rattle.nd_session.proofs.Told.{stranger}
+use Rattle.nd_session.proofs.ReceiptLemmas.{stranger}
 use Rattle.nd_session.proofs.shared.Shared.test.Goals as goal
 
 pub returns-in_err-found-clause-fails : goal.returns-in_err-found-clause-fails

@@ -1,0 +1,68 @@
+//! Lists of the changes of an entry.
+ghost use Rattle.std.specs.Prelude.{◌≡◌, [], ◌∷◌, ◌++◌, OnOk};
+
+use std::alloc::{AllocError, Allocator, Global};
+use std::marker::Model;
+
+/// A position at which an entry differs from the entry at the position before.
+#[derive(Clone, Copy, Drop)]
+pub struct Changed {
+    /// How many kept steps lead there.
+    pub position: u64,
+    /// The entry after them, 0 if there is none.
+    pub entry: i64,
+}
+
+/// A list of changes, in the order of their positions.
+#[derive(Drop)]
+pub struct Changes<A: Allocator = Global> {
+    items: Vec<Changed, A>,
+}
+
+impl<A: Allocator> Model for Changes<A> {
+    ghost use Rattle.std.specs.Prelude.{List};
+    ghost use Rattle.std.specs.Coded.{coded_list};
+    ghost use Rattle.nd_history.specs.Changes.{changed_code};
+    ghost use Rattle.nd_history.specs.declared.change_list.Changed.{Changed as Item};
+
+    ghost Value = { List Item };
+
+    ghost coded = { coded_list changed_code };
+
+    ghost view = { λ a. a.items.items };
+}
+
+impl<A: Allocator> Changes<A> {
+    // Returns an empty list.
+    pub(crate) fn new(alloc: A) -> Changes<A>
+        ensures { result ≡ [] }
+    {
+        Changes {
+            items: Vec::new(alloc),
+        }
+    }
+
+    /// Returns the changes.
+    pub fn as_slice(&self) -> &[Changed]
+        ensures { result.now ≡ self.now }
+    {
+        &self.items
+    }
+
+    // Adds a change at the end.
+    pub(crate) fn push(&mut self, changed: Changed) -> Result<(), AllocError>
+        ensures { OnOk result (self.new ≡ self.old ++ changed ∷ []) }
+    {
+        self.items.push(changed)?;
+        Ok(())
+    }
+}
+
+/// What is listed of the changes in a range of positions (this project's own rule).
+#[derive(Drop)]
+pub struct ChangeList<A: Allocator = Global> {
+    /// The first 1,000 changes, or all if there are no more.
+    pub changes: Changes<A>,
+    /// Whether there are more.
+    pub more: bool,
+}

@@ -1,0 +1,213 @@
+//! The replies to the clients, as lines.
+ghost use Rattle.std.specs.Prelude.{◌≡◌, ◌++◌, ◌∷◌, [], ℕ, List, Some, false, map, IfOk, IfErr, OnOk};
+ghost use Rattle.serde_json.specs.Data.{Data};
+ghost use Rattle.rewind_forms.specs.Errors.{no_graph};
+ghost use Rattle.rewind_forms.specs.Replies.{graph as graph_data};
+ghost use Rattle.rewind_lines.specs.Texts.{text_of};
+ghost use Rattle.rewind_lines.specs.Faults.{is_write_fault};
+ghost use Rattle.rewind_clients.specs.Intakes.{version_replies};
+ghost use Rattle.rewind_clients.specs.Gathered.{Gathered, IsOfWriting, StopsIn};
+ghost use Rattle.rewind_clients.specs.Runs.{entry_data, faults_data, lines_data};
+
+use crate::gather::{flush, put};
+use nd_graph::Graph;
+use nd_session::{Receipt, SessionFault};
+use rewind_forms::{GraphReply, NoNames, Shown, Version, object};
+use rewind_lines::{DebugFault, Outbox, Sink};
+use std::alloc::Global;
+
+/// Gathers the lines of the entries of a log.
+pub fn put_log<T: Sink>(
+    alloc: Global,
+    outbox: &mut Outbox,
+    sink: &mut T,
+    graph: &Graph,
+    log: &[Receipt],
+) -> Result<(), DebugFault>
+    requires sound { T.failed sink.old ≡ false }
+    ensures ok { OnOk result ((replies : List Data) (before : List ℕ)
+        → Gathered replies outbox.old before (T.contents sink.old)
+        → Gathered (replies ++ map (entry_data graph.now) log.now)
+        outbox.new before (T.contents sink.new)) }
+    ensures err { IfErr result (λ e. (replies : List Data) (before : List ℕ)
+        → Gathered replies outbox.old before (T.contents sink.old)
+        → StopsIn (replies ++ map (entry_data graph.now) log.now) before (T.contents sink.new) e) }
+    ensures kind { IfErr result IsOfWriting }
+    ensures failed { T.failed sink.new ≡ is_write_fault result }
+{
+    for entry in log {
+        let Receipt {
+            client,
+            number,
+            reply,
+            ..
+        } = entry;
+        let line = object! {"client": *client, "number": *number, "reply": reply};
+        put(alloc, outbox, sink, graph, &line)?;
+    }
+    Ok(())
+}
+
+// Gathers the line of a client's error, if it had one.
+fn put_fault<T: Sink>(
+    alloc: Global,
+    outbox: &mut Outbox,
+    sink: &mut T,
+    client: u64,
+    fault: &Option<SessionFault>,
+) -> Result<(), DebugFault>
+    requires sound { T.failed sink.old ≡ false }
+    ensures ok { OnOk result ((replies : List Data) (before : List ℕ)
+        → Gathered replies outbox.old before (T.contents sink.old)
+        → Gathered (replies ++ faults_data client (fault.now ∷ []))
+        outbox.new before (T.contents sink.new)) }
+    ensures err { IfErr result (λ e. (replies : List Data) (before : List ℕ)
+        → Gathered replies outbox.old before (T.contents sink.old)
+        → StopsIn (replies ++ faults_data client (fault.now ∷ [])) before (T.contents sink.new) e) }
+    ensures kind { IfErr result IsOfWriting }
+    ensures failed { T.failed sink.new ≡ is_write_fault result }
+{
+    let Some(fault) = fault else {
+        return Ok(());
+    };
+    let code = fault.code();
+    let line = object! {"client": client, "code": code.number(), "error": code.name()};
+    put(alloc, outbox, sink, &NoNames, &line)?;
+    Ok(())
+}
+
+/// Gathers the lines of the clients' errors.
+pub fn put_faults<T: Sink>(
+    alloc: Global,
+    outbox: &mut Outbox,
+    sink: &mut T,
+    faults: &[Option<SessionFault>],
+) -> Result<(), DebugFault>
+    requires sound { T.failed sink.old ≡ false }
+    ensures ok { OnOk result ((replies : List Data) (before : List ℕ)
+        → Gathered replies outbox.old before (T.contents sink.old)
+        → Gathered (replies ++ faults_data 0 faults.now)
+        outbox.new before (T.contents sink.new)) }
+    ensures err { IfErr result (λ e. (replies : List Data) (before : List ℕ)
+        → Gathered replies outbox.old before (T.contents sink.old)
+        → StopsIn (replies ++ faults_data 0 faults.now) before (T.contents sink.new) e) }
+    ensures kind { IfErr result IsOfWriting }
+    ensures failed { T.failed sink.new ≡ is_write_fault result }
+{
+    for (client, fault) in faults.iter().enumerate() {
+        put_fault(alloc, outbox, sink, client as u64, fault)?;
+    }
+    Ok(())
+}
+
+/// Writes one reply.
+pub fn write_reply<T: Sink, V: Shown>(
+    alloc: Global,
+    sink: &mut T,
+    reply: &V,
+) -> Result<(), DebugFault>
+    requires sound { T.failed sink.old ≡ false }
+    ensures ok { OnOk result ((before : List ℕ) → T.contents sink.old ≡ Some before
+        → T.contents sink.new ≡ Some (before ++ text_of (V.shown no_graph reply.now ∷ []))) }
+    ensures err { IfErr result (λ e. (before : List ℕ) → T.contents sink.old ≡ Some before
+        → StopsIn (V.shown no_graph reply.now ∷ []) before (T.contents sink.new) e) }
+    ensures kind { IfErr result IsOfWriting }
+    ensures failed { T.failed sink.new ≡ is_write_fault result }
+{
+    let mut outbox = Outbox::new(alloc);
+    put(alloc, &mut outbox, sink, &NoNames, reply)?;
+    flush(&mut outbox, sink)?;
+    Ok(())
+}
+
+// Gathers the reply to the version line, if there was one.
+fn put_version<T: Sink>(
+    alloc: Global,
+    outbox: &mut Outbox,
+    sink: &mut T,
+    opened: Option<Version>,
+) -> Result<(), DebugFault>
+    requires sound { T.failed sink.old ≡ false }
+    ensures ok { OnOk result ((replies : List Data) (before : List ℕ)
+        → Gathered replies outbox.old before (T.contents sink.old)
+        → Gathered (replies ++ version_replies opened) outbox.new before (T.contents sink.new)) }
+    ensures err { IfErr result (λ e. (replies : List Data) (before : List ℕ)
+        → Gathered replies outbox.old before (T.contents sink.old)
+        → StopsIn (replies ++ version_replies opened) before (T.contents sink.new) e) }
+    ensures kind { IfErr result IsOfWriting }
+    ensures failed { T.failed sink.new ≡ is_write_fault result }
+{
+    let Some(version) = opened else {
+        return Ok(());
+    };
+    let line = object! {"ok": true, "version": version.number()};
+    put(alloc, outbox, sink, &NoNames, &line)?;
+    Ok(())
+}
+
+/// Writes the reply to the version line, if there was one.
+pub fn write_version<T: Sink>(
+    alloc: Global,
+    sink: &mut T,
+    opened: Option<Version>,
+) -> Result<(), DebugFault>
+    requires sound { T.failed sink.old ≡ false }
+    ensures ok { OnOk result ((before : List ℕ) → T.contents sink.old ≡ Some before
+        → T.contents sink.new ≡ Some (before ++ text_of (version_replies opened))) }
+    ensures err { IfErr result (λ e. (before : List ℕ) → T.contents sink.old ≡ Some before
+        → StopsIn (version_replies opened) before (T.contents sink.new) e) }
+    ensures kind { IfErr result IsOfWriting }
+    ensures failed { T.failed sink.new ≡ is_write_fault result }
+{
+    let mut outbox = Outbox::new(alloc);
+    put_version(alloc, &mut outbox, sink, opened)?;
+    flush(&mut outbox, sink)?;
+    Ok(())
+}
+
+/// Writes the reply to the version line, if there was one, and the graph's.
+pub fn write_opening<T: Sink>(
+    alloc: Global,
+    sink: &mut T,
+    opened: Option<Version>,
+    graph: &GraphReply,
+) -> Result<(), DebugFault>
+    requires sound { T.failed sink.old ≡ false }
+    ensures ok { OnOk result ((before : List ℕ) → T.contents sink.old ≡ Some before
+        → T.contents sink.new
+        ≡ Some (before ++ text_of (version_replies opened ++ graph_data graph.now.locations graph.now.processors ∷ []))) }
+    ensures err { IfErr result (λ e. (before : List ℕ) → T.contents sink.old ≡ Some before
+        → StopsIn (version_replies opened ++ graph_data graph.now.locations graph.now.processors ∷ []) before (T.contents sink.new) e) }
+    ensures kind { IfErr result IsOfWriting }
+    ensures failed { T.failed sink.new ≡ is_write_fault result }
+{
+    let mut outbox = Outbox::new(alloc);
+    put_version(alloc, &mut outbox, sink, opened)?;
+    put(alloc, &mut outbox, sink, &NoNames, graph)?;
+    flush(&mut outbox, sink)?;
+    Ok(())
+}
+
+/// Writes the lines of a log, and of the clients' errors.
+pub fn write_log<T: Sink>(
+    alloc: Global,
+    sink: &mut T,
+    graph: &Graph,
+    log: &[Receipt],
+    faults: &[Option<SessionFault>],
+) -> Result<(), DebugFault>
+    requires sound { T.failed sink.old ≡ false }
+    ensures ok { OnOk result ((before : List ℕ) → T.contents sink.old ≡ Some before
+        → T.contents sink.new
+        ≡ Some (before ++ text_of (lines_data graph.now log.now faults.now))) }
+    ensures err { IfErr result (λ e. (before : List ℕ) → T.contents sink.old ≡ Some before
+        → StopsIn (lines_data graph.now log.now faults.now) before (T.contents sink.new) e) }
+    ensures kind { IfErr result IsOfWriting }
+    ensures failed { T.failed sink.new ≡ is_write_fault result }
+{
+    let mut outbox = Outbox::new(alloc);
+    put_log(alloc, &mut outbox, sink, graph, log)?;
+    put_faults(alloc, &mut outbox, sink, faults)?;
+    flush(&mut outbox, sink)?;
+    Ok(())
+}
