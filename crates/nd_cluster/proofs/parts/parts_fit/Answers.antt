@@ -13,7 +13,7 @@ use Rattle.nd_cluster.proofs.Starts.{ordered}
 use Rattle.nd_cluster.proofs.States.{of_parts}
 use Rattle.nd_cluster.proofs.PartsLemmas.{views_to, mesh_to, state_from}
 use Rattle.nd_cluster.proofs.parts.parts_fit.Goals as goal
-use Rattle.nd_cluster.proofs.parts.parts_fit.Goals.{then-views-n-via-then-views-n, then-views-n-via-else-views-n+then-n-2}
+use Rattle.nd_cluster.proofs.parts.parts_fit.Goals.{then-views-n-via-then-views-n, then-views-n-via-else-views-n+then-n}
 
 pub returns-then-not-processors_fit : goal.returns-then-not-processors_fit
 returns-then-not-processors_fit g c = (
@@ -47,9 +47,9 @@ returns g c =
     = subst IsOrdered is (ordered c.graph-graph.result.now c.vertices.ensures.sound c.all_arcs.ensures.agree (subst IsAccepted (sym c.graph-graph.ensures.value) c.graph-graph.ensures.accepted)) in
     let many : length ps ≡ c.n-n.result = ap (λ (qs : List ProcessorState). length qs) c.processors.ensures ∙ sym c.n-n.ensures in
     let some : 0 < length ps = omega (arith, many, c.if-n-eq0.false) in
-    let few : length ps ≤ max_processors = omega (arith, many, c.if-n.false) in
+    let few : length ps ≤ max_processors = omega (arith, many, c.if-n-gt-MAX_PROCESSORS.false) in
     let each_view : length vs ≡ length ps = omega (arith, many, c.if-views-n.false) in
-    let each_sender : length m ≡ length ps = omega (arith, many, c.if-n-2.false, c.n.ensures.value) in (
+    let each_sender : length m ≡ length ps = omega (arith, many, c.if-n.false, c.n.ensures.value) in (
       λ t. subst IsState whole (state_from k ps vs m c.n.ensures.mesh order some few each_view each_sender
           (subst (λ (k : Dataflow). All (ProcessorFits k) ps) is (c.if-not-processors_fit.ensures.fits.0 refl))
           (c.if-not-processors_fit.ensures.within refl)
@@ -70,6 +70,6 @@ returns-then-views-n g c = (
       let count : length (map (λ (v : Kept). v.map) vs) ≡ length vs = length-map vs (λ (v : Kept). v.map) in
       elim c.then-views-n.branch [
         | then-views-n-via-then-views-n w ↦ absurd (omega (arith, w.if-views-n, s.fits.each_view, maps, count, c.n-n.ensures))
-        | then-views-n-via-else-views-n+then-n-2 w ↦ absurd (omega (arith, w.if-n-2, w.n.ensures.value, s.fits.each_sender, rows, c.n-n.ensures))
+        | then-views-n-via-else-views-n+then-n w ↦ absurd (omega (arith, w.if-n, w.n.ensures.value, s.fits.each_sender, rows, c.n-n.ensures))
       ],
 )
