@@ -8,7 +8,7 @@ use Rattle.nd_protocol.specs.Fitting.{IsState}
 use Rattle.nd_protocol.specs.declared.step.Step.{Step}
 use Rattle.nd_steps.specs.Changes.{IsRunnable, applied}
 use Rattle.nd_steps.specs.Flows.{keyed_flow}
-use Rattle.nd_steps.specs.Fed.{fed_changes}
+use Rattle.nd_steps.specs.Feeds.{fed_changes}
 use Rattle.nd_steps.specs.declared.change.Change.{Change}
 use Rattle.nd_steps.specs.declared.record.Changes.{Changes}
 use Rattle.nd_steps.specs.declared.record.Changes.TheVariants.{Each, Flowed, Fed, Sent, Received}
