@@ -21,10 +21,10 @@ use Rattle.nd_protocol.specs.declared.step.Step.{Step}
 use Rattle.nd_protocol.specs.declared.step.Step.TheVariants.{Feed, Take, Notice, Release, Send, Broadcast, Receive}
 use Rattle.nd_protocol.specs.declared.refusal.Refusal.{Refusal}
 use Rattle.nd_protocol.specs.declared.refusal.Refusal.TheVariants.{NoProcessor, DeltaFull, NothingToSend, NotAdmissible, QueueEmpty, QueueFull, Memory}
-use Rattle.nd_steps.specs.Refused.{LeavesUpright, ReceiveFails}
-use Rattle.nd_steps.specs.Standing.{changed}
-use Rattle.nd_steps.specs.Counted.{SentChanges, ReceivedChanges}
-use Rattle.nd_steps.specs.Stored.{received-front}
+use Rattle.nd_steps.specs.Refusals.{LeavesUpright, ReceiveFails}
+use Rattle.nd_steps.specs.Integers.{changed}
+use Rattle.nd_steps.specs.Counts.{SentChanges, ReceivedChanges}
+use Rattle.nd_steps.specs.Fronts.{received-front}
 use Rattle.nd_steps.specs.Plans.{LeadsTo}
 use Rattle.nd_steps.specs.declared.change.Change.{Change as Single}
 use Rattle.nd_cluster.specs.Records.{shared, Plans, ComesLast}

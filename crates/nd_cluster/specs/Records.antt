@@ -10,7 +10,7 @@ use Rattle.nd_protocol.specs.Enabled.{IsEnabled}
 use Rattle.nd_protocol.specs.Invariant.{KeepsProtocol, IsFinished}
 use Rattle.nd_protocol.specs.declared.step.Step.{Step}
 use Rattle.nd_protocol.specs.declared.step.Step.TheVariants.{Notice, Broadcast}
-use Rattle.nd_steps.specs.Standing.{changed}
+use Rattle.nd_steps.specs.Integers.{changed}
 use Rattle.nd_steps.specs.Records.{named, named_by, Makes, MakesBy}
 use Rattle.nd_steps.specs.declared.record.Changes.{Changes}
 use Rattle.nd_steps.specs.declared.record.Record.{Record}

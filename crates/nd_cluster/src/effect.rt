@@ -1,7 +1,7 @@
 //! What a planned step changes.
 ghost use Rattle.std.specs.Prelude.{◌≡◌, IfOk};
 ghost use Rattle.nd_protocol.specs.Steps.{stepped};
-ghost use Rattle.nd_steps.specs.Standing.{changed};
+ghost use Rattle.nd_steps.specs.Integers.{changed};
 ghost use Rattle.nd_steps.specs.Effect.{lists_of, effect_of, altered_count};
 ghost use Rattle.nd_cluster.specs.Records.{IsPlanned};
 

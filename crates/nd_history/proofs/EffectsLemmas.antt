@@ -2,7 +2,7 @@
 use Rattle.std.proofs.Common.{◌≡◌, ◌+◌, ℕ, sym, ap, ◌∙◌}
 use Rattle.nd_protocol.specs.State.{ClusterState}
 use Rattle.nd_protocol.specs.Steps.{stepped}
-use Rattle.nd_steps.specs.Standing.{changed}
+use Rattle.nd_steps.specs.Integers.{changed}
 use Rattle.nd_steps.specs.Effect.{EffectValue, effect_of}
 use Rattle.nd_steps.specs.declared.record.Record.{Record}
 use Rattle.nd_cluster.specs.Records.{Leads}

@@ -4,7 +4,7 @@ use Rattle.nd_time.specs.Code.{Code}
 use Rattle.nd_protocol.specs.State.{ClusterState}
 use Rattle.nd_protocol.specs.Refusals as refusals
 use Rattle.nd_protocol.specs.declared.refusal.Refusal.TheVariants as refusal
-use Rattle.nd_steps.specs.Standing.{changed}
+use Rattle.nd_steps.specs.Integers.{changed}
 use Rattle.nd_steps.specs.Effect.{lists_of, effect_of, altered_count}
 use Rattle.nd_timeline.specs.Timeline.{TimelineValue, cluster_of, moved_to}
 use Rattle.nd_timeline.specs.Faults as faults

@@ -12,7 +12,7 @@ use Rattle.nd_protocol.specs.declared.step.Step.{Step}
 use Rattle.nd_protocol.specs.declared.step.Step.TheVariants.{Feed, Take, Notice, Release, Send, Broadcast, Receive}
 use Rattle.nd_steps.specs.declared.record.Record.{Record}
 use Rattle.nd_protocol.specs.Enabled.{IsEnabled}
-use Rattle.nd_steps.specs.Standing.{changed}
+use Rattle.nd_steps.specs.Integers.{changed}
 use Rattle.nd_steps.specs.Records.{named, Makes, MakesWhat}
 use Rattle.nd_cluster.specs.Records.{IsPlanned, shared}
 use Rattle.nd_cluster.specs.Saved.{IsSaved}

@@ -5,7 +5,7 @@ use Rattle.std.specs.Ordering.{eq_by_cmp}
 use Rattle.nd_map.specs.Counts.{entries}
 use Rattle.nd_protocol.specs.State.{ClusterState, queue}
 use Rattle.nd_steps.specs.Places.{Place, place_at, view_of}
-use Rattle.nd_steps.specs.Standing.{difference, changed, queues_changed, queue_cmp, sum_below}
+use Rattle.nd_steps.specs.Integers.{difference, changed, queues_changed, queue_cmp, sum_below}
 use Rattle.nd_steps.specs.declared.slot.Slot.TheVariants.{Records, Request, Token, State, Sink, Unsent}
 use Rattle.nd_steps.specs.declared.effect.Altered.{Altered}
 use Rattle.nd_steps.specs.Effect.{joined_below, queue_at, queues_altered, places_altered, effect_at, effect_of, altered_count}

@@ -19,8 +19,8 @@ use Rattle.nd_paths.specs.declared.point.Pointstamp.{Pointstamp}
 use Rattle.nd_delta.specs.Delta.{DeltaValue, at as in_change, entries as listed, size, or_zero, at-entries, sorted-entries, some-entry}
 use Rattle.nd_protocol.specs.State.{ClusterState}
 use Rattle.nd_steps.specs.Places.{Place, parts, place_cmp}
-use Rattle.nd_steps.specs.Standing.{standing, difference, change_cmp, queue_cmp, sum_below}
-use Rattle.nd_steps.proofs.StandingLemmas.{difference-listed}
+use Rattle.nd_steps.specs.Integers.{standing, difference, change_cmp, queue_cmp, sum_below}
+use Rattle.nd_steps.proofs.IntegersLemmas.{difference-listed}
 use Rattle.nd_steps.specs.Places.{is_place}
 use Rattle.nd_steps.proofs.AlikeLemmas.{same_key, same_place, other_place, place_itself}
 

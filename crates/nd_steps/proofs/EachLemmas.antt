@@ -13,7 +13,7 @@ use Rattle.nd_protocol.specs.State.{ClusterState}
 use Rattle.nd_steps.specs.Places.{Place, place_cmp, place_total, is_place}
 use Rattle.nd_steps.proofs.AlikeLemmas.{same_key, other_place}
 use Rattle.nd_steps.specs.Slots.{SlotMay, SlotWithin}
-use Rattle.nd_steps.specs.Standing.{standing, IsThere}
+use Rattle.nd_steps.specs.Integers.{standing, IsThere}
 use Rattle.nd_steps.specs.Changes.{place_of, made, Fits, applied}
 use Rattle.nd_steps.specs.Plans.{often, total_at, Once, Each}
 use Rattle.nd_steps.specs.declared.change.Change.{Change}

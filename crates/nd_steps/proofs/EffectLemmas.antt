@@ -2,7 +2,7 @@
 use Rattle.std.proofs.Common.{◌≡◌, ◌+◌, ◌<◌, ℕ, suc, List, [], ◌∷◌, ◌++◌, map, take, drop, length, get_or, sym, ap, ◌∙◌, append_assoc, arith}
 use Rattle.std.proofs.lemmas.List.{append-nil, take_more, drop_more, map-append}
 use Rattle.nd_steps.specs.Effect.{EffectValue, joined_below}
-use Rattle.nd_steps.specs.Altering.{nothing, beside, altered_of, altered_by}
+use Rattle.nd_steps.specs.Alterations.{nothing, beside, altered_of, altered_by}
 use Rattle.nd_steps.specs.declared.change.Change.{Change}
 use Rattle.nd_processor.specs.State.{ProcessorState}
 

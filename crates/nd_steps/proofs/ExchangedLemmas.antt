@@ -14,14 +14,14 @@ use Rattle.nd_protocol.specs.State.{ClusterState, processor, view, queue}
 use Rattle.nd_protocol.specs.Exchange.{sent, received, received_from}
 use Rattle.nd_protocol.specs.Fitting.{KeysFit}
 use Rattle.nd_steps.specs.Places.{Place, place_at, view_of}
-use Rattle.nd_steps.specs.Standing.{queue_cmp}
+use Rattle.nd_steps.specs.Integers.{queue_cmp}
 use Rattle.nd_steps.specs.declared.slot.Slot.TheVariants.{Unsent}
 use Rattle.nd_steps.specs.declared.effect.Altered.{Altered}
 use Rattle.nd_steps.specs.Effect.{altered, unsent_at, view_at, joined_below, queue_at, queues_altered, places_altered, effect_at, effect_of}
-use Rattle.nd_steps.specs.Altering.{nothing, sent_row, longer_row, longer_rows, received_row, shorter_row}
+use Rattle.nd_steps.specs.Alterations.{nothing, sent_row, longer_row, longer_rows, received_row, shorter_row}
 use Rattle.nd_steps.proofs.Differences.{of_one_map, entries_changed, unlike_queues}
-use Rattle.nd_steps.proofs.CountedLemmas.{sent_here, sent_others, longer, received_here, received_others, shorter, of_other_senders, to_others}
-use Rattle.nd_steps.proofs.AlteredLemmas.{same_queue}
+use Rattle.nd_steps.proofs.CountsLemmas.{sent_here, sent_others, longer, received_here, received_others, shorter, of_other_senders, to_others}
+use Rattle.nd_steps.proofs.AlterationsLemmas.{same_queue}
 
 -- ---- lists of rows of queues
 

@@ -9,11 +9,11 @@ use Rattle.nd_map.specs.Cases.{zero_or_not}
 use Rattle.nd_processor.specs.State.{ProcessorState}
 use Rattle.nd_processor.specs.declared.key.ValueAt.{ValueAt}
 use Rattle.nd_protocol.specs.State.{ClusterState}
-use Rattle.nd_steps.specs.Standing.{standing}
+use Rattle.nd_steps.specs.Integers.{standing}
 use Rattle.nd_steps.specs.Changes.{at_key, place_of, Finds}
 use Rattle.nd_steps.specs.Limits.{after, CountStays, EntryStays}
 use Rattle.nd_steps.specs.Plans.{Each, Reaches, ReachesIn, LeadsTo}
-use Rattle.nd_steps.specs.Ordered.{StayWithin, IsOrderedFlow}
+use Rattle.nd_steps.specs.Orders.{StayWithin, IsOrderedFlow}
 use Rattle.nd_steps.specs.Flows.{arriving, come_changes, come_key, flow_changes}
 use Rattle.nd_steps.specs.declared.change.Change.{Change}
 use Rattle.nd_steps.specs.declared.slot.Slot.TheVariants.{Records, Sink, Unsent}

@@ -16,7 +16,7 @@ use Rattle.nd_protocol.specs.declared.step.Next.{Next as Afterwards}
 use Rattle.nd_protocol.specs.declared.step.Next.TheVariants as token
 use Rattle.nd_steps.specs.Places.{place_at}
 use Rattle.nd_steps.specs.Slots.{SlotRanged, from_epoch}
-use Rattle.nd_steps.specs.Standing.{standing}
+use Rattle.nd_steps.specs.Integers.{standing}
 use Rattle.nd_steps.specs.Changes.{at_key, place_of}
 use Rattle.nd_steps.specs.Plans.{often, Each, StaysRanged}
 use Rattle.nd_steps.specs.Places.{is_place}

@@ -19,7 +19,7 @@ use Rattle.nd_protocol.specs.declared.step.Step.{Step}
 use Rattle.nd_protocol.specs.declared.step.Step.TheVariants.{Release, Send, Broadcast}
 use Rattle.nd_protocol.specs.declared.refusal.Refusal.{Refusal}
 use Rattle.nd_protocol.specs.declared.refusal.Refusal.TheVariants.{NotAdmissible, NotLater, TooEarly}
-use Rattle.nd_steps.specs.Refused.{supporting_points}
+use Rattle.nd_steps.specs.Refusals.{supporting_points}
 use Rattle.nd_steps.proofs.LaterLemmas.{Decided, not_early, goes_later}
 use Rattle.nd_steps.proofs.SupportLemmas.{leaves_upright, leaves_alone}
 

@@ -1,13 +1,13 @@
 pub mod AlikeLemmas
 pub mod PlacesLemmas
-pub mod StandingLemmas
+pub mod IntegersLemmas
 pub mod RunsLemmas
 pub mod EachLemmas
 pub mod FlowLemmas
 pub mod PlansLemmas
 pub mod LimitsLemmas
 pub mod Differences
-pub mod CountedLemmas
+pub mod CountsLemmas
 pub mod ReachesLemmas
 pub mod TurnsLemmas
 pub mod Destinations
@@ -34,6 +34,6 @@ pub mod ReceivedLemmas
 pub mod SentLemmas
 pub mod EffectLemmas
 pub mod NamedLemmas
-pub mod AlteredLemmas
+pub mod AlterationsLemmas
 pub mod ExchangedLemmas
 pub mod CountLemmas

@@ -22,7 +22,7 @@ use Rattle.nd_steps.proofs.AlikeLemmas.{same_place}
 use Rattle.nd_steps.specs.declared.slot.Slot.{Slot}
 use Rattle.nd_steps.specs.declared.slot.Slot.TheVariants.{Records, Request, Token, State, Sink, Unsent}
 use Rattle.nd_steps.specs.Slots.{from_epoch, stands, SlotWithin}
-use Rattle.nd_steps.specs.Standing.{standing, CountAt, EntryAt}
+use Rattle.nd_steps.specs.Integers.{standing, CountAt, EntryAt}
 use Rattle.nd_steps.specs.Changes.{place_of}
 use Rattle.nd_steps.specs.Plans.{often, total_at, Each, Reaches}
 use Rattle.nd_steps.specs.Limits.{after, CountStays, EntryStays}

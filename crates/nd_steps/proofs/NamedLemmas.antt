@@ -12,7 +12,7 @@ use Rattle.nd_map.specs.Counts.{entries, keys_of, size}
 use Rattle.nd_vertex.specs.Table.{is_zero}
 use Rattle.nd_protocol.specs.State.{ClusterState}
 use Rattle.nd_steps.specs.Places.{Place, place_cmp, is_place}
-use Rattle.nd_steps.specs.Standing.{standing, IsThere, difference}
+use Rattle.nd_steps.specs.Integers.{standing, IsThere, difference}
 use Rattle.nd_steps.specs.Changes.{place_of, AreByPlace, Fits, state_at, IsRunnable}
 use Rattle.nd_steps.specs.Drafts.{some_of, both, joins, joined, AreJoined}
 use Rattle.nd_steps.specs.Plans.{often, total_at, Once, Each}

@@ -29,7 +29,7 @@ use Rattle.nd_steps.specs.declared.slot.Slot.{Slot}
 use Rattle.nd_steps.specs.declared.slot.Slot.TheVariants.{Records, Request, Token, State, Sink, Unsent}
 use Rattle.nd_steps.proofs.AlikeLemmas.{same_key, other_key}
 use Rattle.nd_steps.specs.Slots.{from_request, from_epoch, with_request, with_epoch, stands, puts, SlotIsThere, SlotMay}
-use Rattle.nd_steps.specs.Standing.{standing, put_at, IsThere, MayStand}
+use Rattle.nd_steps.specs.Integers.{standing, put_at, IsThere, MayStand}
 
 -- ---- another integer at one place of a processor
 

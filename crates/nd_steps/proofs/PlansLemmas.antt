@@ -13,16 +13,16 @@ use Rattle.nd_protocol.specs.State.{ClusterState}
 use Rattle.nd_steps.specs.Places.{Place, place_cmp, place_total, place_exact, is_place}
 use Rattle.nd_steps.proofs.AlikeLemmas.{same_key}
 use Rattle.nd_steps.specs.Slots.{SlotMay}
-use Rattle.nd_steps.specs.Standing.{standing, IsThere, difference}
+use Rattle.nd_steps.specs.Integers.{standing, IsThere, difference}
 use Rattle.nd_steps.specs.Changes.{place_of, made, Fits, Finds, applied, state_at, IsRunnable}
 use Rattle.nd_steps.specs.Limits.{after, CountStays, EntryStays}
 use Rattle.nd_steps.specs.Plans.{often, total_at, Once, Each, StaysRanged, Reaches, LeadsTo}
 use Rattle.nd_steps.specs.Turns.{IsInOrder}
-use Rattle.nd_steps.specs.Undone.{IsGain}
+use Rattle.nd_steps.specs.Undos.{IsGain}
 use Rattle.nd_steps.specs.declared.change.Change.{Change}
 use Rattle.nd_steps.proofs.PlacesLemmas.{SameShape, shape-turned, shape-through, there_alike, there_where, same_state, may_stand}
-use Rattle.nd_steps.proofs.CountedLemmas.{queues_same}
-use Rattle.nd_steps.proofs.StandingLemmas.{difference-listed}
+use Rattle.nd_steps.proofs.CountsLemmas.{queues_same}
+use Rattle.nd_steps.proofs.IntegersLemmas.{difference-listed}
 use Rattle.nd_steps.proofs.RunsLemmas.{shape-applied, landed, moved_by, state_more}
 use Rattle.nd_steps.proofs.EachLemmas.{plus_none, each_at, each_take, each_from, each_through, each_moved, often_moved, total_moved, not_there, rest_none, never_added, often_before, gain_alone, untouched, fits_moved}
 use Rattle.nd_steps.proofs.LimitsLemmas.{slot_within}

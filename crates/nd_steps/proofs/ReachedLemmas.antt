@@ -9,9 +9,9 @@ use Rattle.nd_protocol.specs.Enabled.{IsFreeBelow}
 use Rattle.nd_protocol.specs.declared.step.Step.{Step}
 use Rattle.nd_steps.specs.Places.{Place, place_at, view_of}
 use Rattle.nd_steps.specs.Slots.{SlotRanged}
-use Rattle.nd_steps.specs.Standing.{standing}
+use Rattle.nd_steps.specs.Integers.{standing}
 use Rattle.nd_steps.specs.Changes.{place_of}
-use Rattle.nd_steps.specs.Undone.{IsGain}
+use Rattle.nd_steps.specs.Undos.{IsGain}
 use Rattle.nd_steps.specs.Plans.{total_at, Each, StaysRanged, Reaches}
 use Rattle.nd_steps.specs.Places.{is_place}
 use Rattle.nd_steps.proofs.AlikeLemmas.{same_place, same_slot}

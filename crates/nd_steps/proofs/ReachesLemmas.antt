@@ -6,10 +6,10 @@ use Rattle.nd_protocol.specs.Enabled.{HasLargeCount, HasLargeEntry}
 use Rattle.nd_protocol.specs.declared.refusal.Refusal.{Refusal}
 use Rattle.nd_protocol.specs.declared.refusal.Refusal.TheVariants.{CountFull, DeltaFull}
 use Rattle.nd_steps.specs.Limits.{CountStays, EntryStays, LimitFails}
-use Rattle.nd_steps.specs.Ordered.{StayWithin, StayFails}
+use Rattle.nd_steps.specs.Orders.{StayWithin, StayFails}
 use Rattle.nd_steps.specs.Plans.{Each, Reaches, ReachesIn, LeadsTo}
 use Rattle.nd_steps.specs.Turns.{IsReadable, IsInOrder}
-use Rattle.nd_steps.specs.Undone.{IsGain}
+use Rattle.nd_steps.specs.Undos.{IsGain}
 use Rattle.nd_steps.specs.declared.change.Change.{Change}
 use Rattle.nd_steps.proofs.EachLemmas.{each_at, each_from}
 use Rattle.nd_steps.proofs.LimitsLemmas.{counts_pass, entries_pass, counts_fit, entries_fit}

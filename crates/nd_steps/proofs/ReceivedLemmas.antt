@@ -12,7 +12,7 @@ use Rattle.nd_mesh.specs.Laws.{queue-with_queue, unpopped-popped}
 use Rattle.nd_protocol.specs.State.{ClusterState, view}
 use Rattle.nd_protocol.specs.Exchange.{received}
 use Rattle.nd_protocol.specs.Fitting.{IsState}
-use Rattle.nd_steps.specs.Stored.{received-front}
+use Rattle.nd_steps.specs.Fronts.{received-front}
 use Rattle.nd_steps.specs.Records.{CanReceive, Receives}
 use Rattle.nd_protocol.specs.Seen.{seen}
 

@@ -10,7 +10,7 @@ use Rattle.nd_map.specs.Cases.{again}
 use Rattle.nd_protocol.specs.State.{ClusterState}
 use Rattle.nd_steps.specs.Places.{Place, place_cmp, place_exact}
 use Rattle.nd_steps.specs.Slots.{SlotMay, SlotWithin}
-use Rattle.nd_steps.specs.Standing.{standing, put_at, IsThere}
+use Rattle.nd_steps.specs.Integers.{standing, put_at, IsThere}
 use Rattle.nd_steps.specs.Changes.{place_of, inverse, made, Fits, applied, state_at, IsRunnable}
 use Rattle.nd_steps.specs.declared.change.Change.{Change}
 use Rattle.nd_steps.proofs.PlacesLemmas.{SameShape, shape-itself, shape-turned, shape-through, shape-put, there_alike, same_state, standing-put, standing-put_at, may_stand}

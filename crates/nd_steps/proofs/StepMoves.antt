@@ -17,7 +17,7 @@ use Rattle.nd_protocol.specs.TruthLaws.{kept-set, count, count-set, gain-count}
 use Rattle.nd_protocol.specs.declared.step.Step.{Step}
 use Rattle.nd_steps.specs.Places.{Place, place_at, view_of}
 use Rattle.nd_steps.specs.Slots.{stands}
-use Rattle.nd_steps.specs.Standing.{standing}
+use Rattle.nd_steps.specs.Integers.{standing}
 use Rattle.nd_steps.specs.Changes.{place_of}
 use Rattle.nd_steps.specs.Plans.{total_at}
 use Rattle.nd_steps.specs.Drafts.{arrivals}

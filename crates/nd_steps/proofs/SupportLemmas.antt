@@ -15,7 +15,7 @@ use Rattle.nd_processor.specs.State.{ProcessorState, token_point, one_at}
 use Rattle.nd_processor.specs.Edits.{token_points}
 use Rattle.nd_processor.specs.HeldLaws.{point_cases, one_at_itself, sum_by-map}
 use Rattle.nd_protocol.specs.Invariant.{supporting, Supports}
-use Rattle.nd_steps.specs.Refused.{supports_at, supporting_points, LeavesUpright, LeavesAlone}
+use Rattle.nd_steps.specs.Refusals.{supports_at, supporting_points, LeavesUpright, LeavesAlone}
 
 -- ---- how often a pointstamp is in a list
 

@@ -14,7 +14,7 @@ use Rattle.nd_protocol.specs.declared.refusal.Refusal.TheVariants.{CountFull, De
 use Rattle.nd_steps.specs.Plans.{Each}
 use Rattle.nd_steps.specs.Limits.{after, CountStays, EntryStays}
 use Rattle.nd_steps.specs.Turns.{IsInOrder}
-use Rattle.nd_steps.specs.Ordered.{StayWithin, StayFails}
+use Rattle.nd_steps.specs.Orders.{StayWithin, StayFails}
 use Rattle.nd_steps.specs.declared.change.Change.{Change}
 use Rattle.nd_steps.proofs.EachLemmas.{each_at, each_from}
 

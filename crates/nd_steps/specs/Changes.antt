@@ -6,7 +6,7 @@ use Rattle.nd_processor.specs.State.{ProcessorState, idle}
 use Rattle.nd_protocol.specs.State.{ClusterState, processor}
 use Rattle.nd_steps.specs.Places.{Place, place_at, place_cmp}
 use Rattle.nd_steps.specs.Slots.{stands, puts, SlotIsThere, SlotMay, SlotWithin}
-use Rattle.nd_steps.specs.Standing.{standing, put_at}
+use Rattle.nd_steps.specs.Integers.{standing, put_at}
 use Rattle.nd_steps.specs.declared.change.Change.{Change}
 use Rattle.nd_steps.specs.declared.slot.Slot.{Slot}
 

@@ -13,7 +13,7 @@ use Rattle.nd_processor.specs.declared.key.ValueAt.{ValueAt}
 use Rattle.nd_processor.specs.declared.key.SinkKey.{SinkKey}
 use Rattle.nd_protocol.specs.State.{ClusterState, processor, view, queue}
 use Rattle.nd_steps.specs.Places.{Place, place_at, view_of}
-use Rattle.nd_steps.specs.Standing.{difference, changed, queue_cmp}
+use Rattle.nd_steps.specs.Integers.{difference, changed, queue_cmp}
 use Rattle.nd_steps.specs.Records.{named, Makes}
 use Rattle.nd_steps.specs.declared.record.Record.{Record}
 use Rattle.nd_steps.specs.declared.slot.Slot.TheVariants.{Records, Request, Token, State, Sink, Unsent}

@@ -4,10 +4,10 @@ use Rattle.nd_processor.specs.State.{ProcessorState}
 use Rattle.nd_protocol.specs.State.{ClusterState, processor}
 use Rattle.nd_protocol.specs.Fitting.{IsState}
 use Rattle.nd_steps.specs.Places.{Place, is_place}
-use Rattle.nd_steps.specs.Standing.{standing, changed}
+use Rattle.nd_steps.specs.Integers.{standing, changed}
 use Rattle.nd_steps.specs.Changes.{place_of, IsRunnable, applied}
 use Rattle.nd_steps.specs.Slots.{SlotRanged}
-use Rattle.nd_steps.specs.Undone.{IsGain}
+use Rattle.nd_steps.specs.Undos.{IsGain}
 use Rattle.nd_steps.specs.declared.change.Change.{Change}
 
 -- how often a place occurs in a list of changes

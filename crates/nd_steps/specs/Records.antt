@@ -1,5 +1,5 @@
 -- What the record of a step names, and to which state it leads.
-use Rattle.std.specs.Prelude.{◌≡◌, ◌<◌, ℕ, ◌+◌, List, [], Some, slice_get, length}
+use Rattle.std.specs.Prelude.{◌≡◌, ◌<◌, ℕ, ◌+◌, List, [], Some, slice_get, length, ⊤}
 use Rattle.nd_delta.specs.Delta.{DeltaValue, plus, size, IsTooLarge, IsPartOf}
 use Rattle.nd_mesh.specs.Mesh.{row, HasQueue, IsFull}
 use Rattle.nd_protocol.specs.State.{ClusterState, processor, view, queue}
@@ -8,7 +8,7 @@ use Rattle.nd_protocol.specs.Fitting.{IsState}
 use Rattle.nd_protocol.specs.declared.step.Step.{Step}
 use Rattle.nd_steps.specs.Changes.{IsRunnable, applied}
 use Rattle.nd_steps.specs.Flows.{keyed_flow}
-use Rattle.nd_steps.specs.Fed.{fed_changes}
+use Rattle.nd_steps.specs.Feeds.{fed_changes}
 use Rattle.nd_steps.specs.declared.change.Change.{Change}
 use Rattle.nd_steps.specs.declared.record.Changes.{Changes}
 use Rattle.nd_steps.specs.declared.record.Changes.TheVariants.{Each, Flowed, Fed, Sent, Received}
@@ -74,9 +74,16 @@ MakesBy s x (Sent p part) t = Sends s p part t
 MakesBy s x (Received from to change) t = Receives s from to change t
 MakesBy s x changes t = RunsTo s (keyed x changes) t
 
+-- the changes are those of a broadcast or a receive
+abbrev pub AreExchanged : {A : Type 0} → Changes A → Type 0
+AreExchanged (Sent p part) = ⊤
+AreExchanged (Received from to change) = ⊤
+AreExchanged _ = ⊥
+
 -- the changes ds of a step are its changes cs, in the same order, and lead wherever these lead
 pub record StandFor {A : Type 0} (x : Step A) (cs ds : Changes A) : Type 0 where
   pub same : keyed x ds ≡ keyed x cs
+  pub left : AreExchanged cs → ds ≡ cs
   pub many : named_by x ds ≡ named_by x cs
   pub makes : (s t : ClusterState) → MakesBy s x cs t → MakesBy s x ds t
 

@@ -6,7 +6,7 @@ use Rattle.nd_processor.specs.State.{ProcessorState}
 use Rattle.nd_steps.specs.Slots.{SlotIsThere}
 use Rattle.nd_steps.specs.Changes.{own}
 use Rattle.nd_steps.specs.Limits.{after}
-use Rattle.nd_steps.specs.Undone.{IsGain}
+use Rattle.nd_steps.specs.Undos.{IsGain}
 use Rattle.nd_steps.specs.declared.change.Change.{Change}
 
 -- the processor and the map of the change exist, and its integer is small enough to be undone

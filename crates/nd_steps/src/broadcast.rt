@@ -4,7 +4,7 @@ ghost use Rattle.nd_delta.specs.Delta.{none, part as part_at, IsPartOf};
 ghost use Rattle.nd_protocol.specs.Steps.{chosen};
 ghost use Rattle.nd_protocol.specs.Exchange.{sent};
 ghost use Rattle.nd_protocol.specs.Fitting.{IsState};
-ghost use Rattle.nd_steps.specs.Refused.{LeavesUpright, LeavesAlone, PartFails, supporting_points as points_that_support};
+ghost use Rattle.nd_steps.specs.Refusals.{LeavesUpright, LeavesAlone, PartFails, supporting_points as points_that_support};
 ghost use Rattle.nd_steps.specs.Records.{CanSend, Sends, CameFrom, IsBackAt};
 
 use crate::operator::op_at;

@@ -1,6 +1,6 @@
 //! A change at one place of a cluster's state: a place, and a number.
 ghost use Rattle.std.specs.Prelude.{◌≡◌, IsTrue, neg_ℤ, pos};
-ghost use Rattle.nd_steps.specs.Undone.{IsGain};
+ghost use Rattle.nd_steps.specs.Undos.{IsGain};
 
 use crate::Slot;
 

@@ -10,7 +10,7 @@ ghost use Rattle.nd_steps.specs.Changes.{at_key, place_of, AreByPlace};
 ghost use Rattle.nd_steps.specs.Drafts.{item_changes, ask_changes, sink_changes, HasValues, some_of, both, joined, AreJoined};
 ghost use Rattle.nd_steps.specs.Performers.{Adds, AddsRecords};
 
-use crate::making::number;
+use crate::amounts::number;
 use crate::{Change, Slot};
 use nd_paths::Pointstamp;
 use nd_processor::{SinkKey, ValueAt};

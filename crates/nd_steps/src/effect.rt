@@ -1,5 +1,5 @@
 //! What a step changes, with the values before and after.
-ghost use Rattle.nd_steps.specs.Altering.{nothing};
+ghost use Rattle.nd_steps.specs.Alterations.{nothing};
 ghost use Rattle.nd_steps.specs.Effect.{lists_of};
 ghost use Rattle.std.specs.Prelude.{◌≡◌};
 

@@ -1,6 +1,6 @@
 //! Feeds that are kept in little memory: the step determines most of the changes.
 ghost use Rattle.std.specs.Prelude.{◌≡◌, ◌≤◌, ◌+◌, ◌++◌, IfSome, length};
-ghost use Rattle.nd_steps.specs.Fed.{arrived as arrived_at, announced, moved, fed_changes};
+ghost use Rattle.nd_steps.specs.Feeds.{arrived as arrived_at, announced, moved, fed_changes};
 
 use crate::feed::moves;
 use crate::flow::MOST;

@@ -1,6 +1,6 @@
 //! Takes that are kept in little memory: the consequence determines the changes.
 ghost use Rattle.std.specs.Prelude.{◌≡◌, ◌≤◌, ◌++◌, IfOk, IfErr, length};
-ghost use Rattle.nd_steps.specs.Ordered.{CanReach, IsOrderedFlow, PassLimit};
+ghost use Rattle.nd_steps.specs.Orders.{CanReach, IsOrderedFlow, PassLimit};
 ghost use Rattle.nd_steps.specs.Flows.{arriving, come_changes, flow_changes, keyed_flow};
 
 use crate::come::Come;

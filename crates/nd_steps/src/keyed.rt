@@ -1,7 +1,7 @@
 //! The changes of a feed, a take, a notice, a release or a send, by their indices.
 ghost use Rattle.std.specs.Prelude.{◌≡◌, ◌<◌, ◌++◌, IsTrue, length, map, slice_index_or};
 ghost use Rattle.std.specs.Cow.{cow_value};
-ghost use Rattle.nd_steps.specs.Fed.{arrived};
+ghost use Rattle.nd_steps.specs.Feeds.{arrived};
 ghost use Rattle.nd_steps.specs.Keyed.{changes_in};
 
 use crate::flow::MOST;
@@ -27,7 +27,7 @@ pub(crate) struct Keyed<'a> {
 
 impl<'a> Model for Keyed<'a> {
     ghost use Rattle.std.specs.Prelude.{List, ◌++◌, map};
-    ghost use Rattle.nd_steps.specs.Fed.{arrived};
+    ghost use Rattle.nd_steps.specs.Feeds.{arrived};
     ghost use Rattle.nd_steps.specs.Keyed.{changes_in};
     ghost use Rattle.nd_steps.specs.declared.change.Change.{Change};
 

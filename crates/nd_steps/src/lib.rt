@@ -1,22 +1,22 @@
 //! Steps of a cluster: the changes of each and their order, and how they are applied and undone.
 #![tactic(auto)]
 
-mod altering;
+mod alteration;
+mod amounts;
 mod broadcast;
 mod change;
 mod come;
 mod commit;
-mod counted;
+mod counts;
 mod draft;
 mod effect;
-mod effected;
+mod effects;
 mod emit;
 mod fed_at;
 mod feed;
 mod flow;
 mod keyed;
 mod laws;
-mod making;
 mod onward;
 mod operator;
 mod order;
@@ -33,9 +33,9 @@ pub use broadcast::planned_part;
 pub use change::Change;
 pub use come::Come;
 pub use commit::{commit_record, undo_record};
-pub use counted::changes_are_counted;
+pub use counts::changes_are_counted;
 pub use effect::{Altered, Effect, ItemAt};
-pub use effected::record_effect;
+pub use effects::record_effect;
 pub use emit::Performer;
 pub use fed_at::FedAt;
 pub use feed::{Fed, feed_changes};

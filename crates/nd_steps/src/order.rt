@@ -1,7 +1,7 @@
 //! The order in which changes are applied, and the limits that they may exceed.
 ghost use Rattle.std.specs.Prelude.{IfOk, IfErr, OnOk};
 ghost use Rattle.nd_steps.specs.Plans.{Each};
-ghost use Rattle.nd_steps.specs.Ordered.{StayWithin, StayFails, CanReach, AreOrdered, PassLimit};
+ghost use Rattle.nd_steps.specs.Orders.{StayWithin, StayFails, CanReach, AreOrdered, PassLimit};
 ghost use Rattle.nd_steps.specs.Turns.{IsReadable, IsInOrder, FirstLeaves};
 
 use crate::Change;

@@ -5,7 +5,7 @@ ghost use Rattle.nd_steps.specs.Slots.{stands, SlotIsThere};
 ghost use Rattle.nd_steps.specs.Limits.{after, ReadsAs};
 ghost use Rattle.nd_steps.specs.Turns.{IsReadable};
 
-use crate::making::epoch_number;
+use crate::amounts::epoch_number;
 use crate::{Change, Slot};
 use nd_processor::Processor;
 use nd_time::limits::MAX_COUNT;

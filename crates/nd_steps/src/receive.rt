@@ -5,7 +5,7 @@ ghost use Rattle.nd_delta.specs.Delta.{at, plus, IsTooLarge};
 ghost use Rattle.nd_protocol.specs.State.{view, queue};
 ghost use Rattle.nd_protocol.specs.Exchange.{received};
 ghost use Rattle.nd_protocol.specs.Fitting.{IsState};
-ghost use Rattle.nd_steps.specs.Refused.{ReceiveFails};
+ghost use Rattle.nd_steps.specs.Refusals.{ReceiveFails};
 ghost use Rattle.nd_steps.specs.Records.{CanReceive, Receives, CameFrom, IsBackAt};
 
 use nd_delta::Delta;

@@ -1,6 +1,6 @@
 //! Records of steps: the changes of each.
 ghost use Rattle.std.specs.Prelude.{◌≡◌, IfOk};
-ghost use Rattle.nd_steps.specs.Records.{keyed, named, AreEqual, MakesWhat, StandFor};
+ghost use Rattle.nd_steps.specs.Records.{keyed, named, AreEqual, AreExchanged, MakesWhat, StandFor};
 
 use crate::keyed::Keyed;
 use crate::{Change, FedAt, Flow};
@@ -148,6 +148,7 @@ impl<A: Allocator + Copy> Record<A> {
     pub fn small(self) -> Record<A>
         ensures step { result.step ≡ self.step }
         ensures changes { keyed result.step result.changes ≡ keyed self.step self.changes }
+        ensures left { AreExchanged self.changes → result.changes ≡ self.changes }
         ensures many { named result ≡ named self }
         ensures makes { MakesWhat self result }
     {

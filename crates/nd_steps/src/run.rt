@@ -3,8 +3,8 @@ ghost use Rattle.std.specs.Prelude.{◌≡◌, OnOk, OnErr};
 ghost use Rattle.nd_steps.specs.Changes.{at_key, inverse, made, applied, Fits, FindsNothing, IsRunnable};
 ghost use Rattle.nd_steps.specs.Records.{RunsTo, CameFrom, IsBackAt};
 
+use crate::amounts::make_in;
 use crate::keyed::Keyed;
-use crate::making::make_in;
 use crate::{Change, Slot};
 use nd_protocol::Parts;
 use std::alloc::{AllocError, Allocator};

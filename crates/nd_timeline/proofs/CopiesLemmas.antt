@@ -5,10 +5,10 @@ use Rattle.nd_protocol.specs.State.{ClusterState}
 use Rattle.nd_protocol.specs.Steps.{after, stepped}
 use Rattle.nd_protocol.specs.Enabled.{IsEnabled}
 use Rattle.nd_protocol.specs.declared.step.Step.{Step}
-use Rattle.nd_steps.specs.Standing.{changed}
+use Rattle.nd_steps.specs.Integers.{changed}
 use Rattle.nd_steps.specs.Records.{named, named_by, AreEqual, Makes}
 use Rattle.nd_steps.specs.Flows.{keyed_flow}
-use Rattle.nd_steps.specs.Fed.{fed_changes}
+use Rattle.nd_steps.specs.Feeds.{fed_changes}
 use Rattle.nd_steps.specs.declared.fed_at.FedAt.{FedAt}
 use Rattle.nd_steps.specs.declared.flow.Flow.{Flow}
 use Rattle.nd_steps.specs.declared.record.Record.{Record}

@@ -1,5 +1,5 @@
 -- Which pointstamps of a view's frontier a loop has taken.
-use Rattle.std.proofs.Common.{◌≡◌, ◌≢◌, ◌<◌, ◌≤◌, ◌+◌, ℕ, ℤ, pos, Bool, true, false, cond, length, get_or, refl, ap, sym, subst, ◌∙◌, arith, unsigned_abs}
+use Rattle.std.proofs.Common.{◌≡◌, ◌≢◌, ◌<◌, ◌≤◌, ◌+◌, ℕ, ℤ, pos, true, false, cond, length, get_or, refl, ap, sym, subst, ◌∙◌, arith, unsigned_abs}
 use Rattle.std.proofs.lemmas.Map.Views.{tells_apart}
 use Rattle.nd_time.specs.Limits.{max_count}
 use Rattle.nd_graph.specs.Graph.{Dataflow}

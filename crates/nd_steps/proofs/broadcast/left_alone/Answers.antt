@@ -1,7 +1,7 @@
 use Rattle.std.proofs.Common.{◌≡◌, sym, ap, subst, ◌∙◌}
 use Rattle.nd_delta.specs.Delta.{minus, size, IsPartOf}
 use Rattle.nd_steps.proofs.PartsSent.{nothing_stays}
-use Rattle.nd_steps.specs.Refused.{supporting_points}
+use Rattle.nd_steps.specs.Refusals.{supporting_points}
 use Rattle.nd_steps.proofs.SupportLemmas.{leaves_upright, leaves_alone, nothing_alone}
 use Rattle.nd_steps.proofs.broadcast.left_alone.Goals as goal
 

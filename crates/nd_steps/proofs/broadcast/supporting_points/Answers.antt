@@ -4,7 +4,7 @@ use Rattle.std.specs.Map.Iter.{deref_pair}
 use Rattle.std.proofs.lemmas.Map.Iter.{rest_more}
 use Rattle.nd_graph.specs.Operators.{facts}
 use Rattle.nd_paths.specs.declared.point.Pointstamp.{Pointstamp}
-use Rattle.nd_steps.specs.Refused.{supporting_points, supports_at}
+use Rattle.nd_steps.specs.Refusals.{supporting_points, supports_at}
 use Rattle.nd_steps.proofs.SupportLemmas.{kept_more, passed_over}
 use Rattle.nd_steps.proofs.broadcast.supporting_points.Goals as goal
 

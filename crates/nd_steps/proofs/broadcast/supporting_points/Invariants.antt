@@ -1,6 +1,6 @@
 use Rattle.std.proofs.Common.{◌≡◌, ◌++◌, map}
 use Rattle.std.specs.Prelude.{filter}
-use Rattle.nd_steps.specs.Refused.{supporting_points, supports_at}
+use Rattle.nd_steps.specs.Refusals.{supporting_points, supports_at}
 use Rattle.nd_steps.proofs.broadcast.supporting_points.Given as goal
 
 -- the points so far, and those of the requests that are left

@@ -3,7 +3,7 @@ use Rattle.std.proofs.lemmas.Result.{err_from_is_err_and}
 use Rattle.nd_steps.specs.Plans.{Each}
 use Rattle.nd_steps.specs.Turns.{IsReadable, FirstLeaves}
 use Rattle.nd_steps.specs.Changes.{at_key}
-use Rattle.nd_steps.specs.Ordered.{StayWithin, StayFails}
+use Rattle.nd_steps.specs.Orders.{StayWithin, StayFails}
 use Rattle.nd_processor.specs.declared.key.ValueAt.{ValueAt}
 use Rattle.nd_steps.specs.declared.change.Change.{Change}
 use Rattle.nd_steps.specs.declared.slot.Slot.TheVariants.{Unsent}

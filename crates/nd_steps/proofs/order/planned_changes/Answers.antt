@@ -4,7 +4,7 @@ use Rattle.std.proofs.lemmas.List.Sorted.{length_permutation}
 use Rattle.std.proofs.lemmas.Result.{err_from_is_err_and}
 use Rattle.nd_steps.specs.Plans.{Each}
 use Rattle.nd_steps.specs.Turns.{IsReadable, IsInOrder}
-use Rattle.nd_steps.specs.Ordered.{StayWithin, StayFails, AreOrdered}
+use Rattle.nd_steps.specs.Orders.{StayWithin, StayFails, AreOrdered}
 use Rattle.nd_steps.proofs.ReachesLemmas.{readable, few_enough, little_enough, passes, leads}
 use Rattle.nd_steps.proofs.order.planned_changes.Goals as goal
 

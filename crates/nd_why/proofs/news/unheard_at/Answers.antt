@@ -1,4 +1,4 @@
-use Rattle.std.proofs.Common.{◌≡◌, ◌<◌, List, [], length, ap, sym, subst, ◌∙◌, arith}
+use Rattle.std.proofs.Common.{◌≡◌, List, [], length, ap, ◌∙◌, arith}
 use Rattle.nd_delta.specs.Delta.{DeltaValue, at}
 use Rattle.nd_mesh.specs.Mesh.{queue as queue_in}
 use Rattle.nd_protocol.specs.State.{processor, queue}

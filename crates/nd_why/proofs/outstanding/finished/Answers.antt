@@ -1,4 +1,4 @@
-use Rattle.std.proofs.Common.{◌≡◌, ◌<◌, ◌≤◌, List, length, get_or, refl, sym, subst, ◌∙◌, true≢false, below_more}
+use Rattle.std.proofs.Common.{◌≡◌, ◌<◌, ◌≤◌, length, get_or, refl, sym, subst, ◌∙◌, true≢false, below_more}
 use Rattle.std.proofs.lemmas.List.{get_or_default}
 use Rattle.nd_graph.specs.Graph.{Dataflow}
 use Rattle.nd_processor.specs.State.{ProcessorState, held}

@@ -5,7 +5,7 @@ use Rattle.nd_delta.specs.Delta.{IsPartOf}
 use Rattle.nd_mesh.specs.Mesh.{row, HasQueue, IsFull}
 use Rattle.nd_protocol.specs.State.{processor}
 use Rattle.nd_protocol.specs.Steps.{chosen}
-use Rattle.nd_steps.specs.Refused.{LeavesUpright}
+use Rattle.nd_steps.specs.Refusals.{LeavesUpright}
 use Rattle.nd_cluster.proofs.Exchanges.{broadcast_plans}
 use Rattle.nd_cluster.proofs.cluster.Cluster.broadcast_changes.Goals as goal
 

@@ -1,7 +1,7 @@
 use Rattle.std.proofs.Common.{ap, sym, subst, ◌∙◌, arith}
 use Rattle.std.proofs.lemmas.Result.{IfOk-weaker}
 use Rattle.nd_protocol.specs.Steps.{stepped}
-use Rattle.nd_steps.specs.Standing.{changed}
+use Rattle.nd_steps.specs.Integers.{changed}
 use Rattle.nd_steps.specs.Records.{Makes}
 use Rattle.nd_steps.specs.Effect.{effect_of, MakesExactly}
 use Rattle.nd_cluster.proofs.cluster.Cluster.effect.Goals as goal

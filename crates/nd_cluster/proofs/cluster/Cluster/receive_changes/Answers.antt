@@ -5,7 +5,7 @@ use Rattle.nd_delta.specs.Delta.{plus, IsTooLarge}
 use Rattle.nd_protocol.specs.State.{ClusterState, view, queue}
 use Rattle.nd_protocol.specs.declared.refusal.Refusal.{Refusal}
 use Rattle.nd_protocol.specs.declared.refusal.Refusal.TheVariants.{Memory}
-use Rattle.nd_steps.specs.Refused.{ReceiveFails}
+use Rattle.nd_steps.specs.Refusals.{ReceiveFails}
 use Rattle.nd_cluster.proofs.Exchanges.{error_is, receive_plans, receive_refused, receive_wants_memory}
 use Rattle.nd_cluster.proofs.cluster.Cluster.receive_changes.Goals as goal
 

@@ -4,7 +4,7 @@ use Rattle.std.proofs.lemmas.Int.{to_z-of_z}
 use Rattle.nd_processor.specs.State.{ProcessorState, idle}
 use Rattle.nd_steps.specs.Changes.{own, FitsIn}
 use Rattle.nd_steps.specs.Effect.{lists_of}
-use Rattle.nd_steps.specs.Altering.{beside, altered_at}
+use Rattle.nd_steps.specs.Alterations.{beside, altered_at}
 use Rattle.std.proofs.lemmas.List.{get_or_default}
 use Rattle.nd_steps.proofs.effect.Effect.add.Goals as goal
 

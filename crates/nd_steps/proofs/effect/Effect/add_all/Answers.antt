@@ -1,7 +1,7 @@
 use Rattle.std.proofs.Common.{◌≡◌, [], drop, sym, ap, ◌∙◌}
 use Rattle.std.proofs.Math.ListN.{drop_of_length-le}
 use Rattle.nd_steps.specs.Effect.{lists_of}
-use Rattle.nd_steps.specs.Altering.{beside, altered_by}
+use Rattle.nd_steps.specs.Alterations.{beside, altered_by}
 use Rattle.nd_steps.proofs.EffectLemmas.{beside-nothing, add_more}
 use Rattle.nd_steps.proofs.effect.Effect.add_all.Goals as goal
 

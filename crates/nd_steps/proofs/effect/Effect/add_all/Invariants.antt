@@ -1,6 +1,6 @@
 use Rattle.std.proofs.Common.{◌≡◌, drop}
 use Rattle.nd_steps.specs.Effect.{lists_of}
-use Rattle.nd_steps.specs.Altering.{beside, altered_by}
+use Rattle.nd_steps.specs.Alterations.{beside, altered_by}
 use Rattle.nd_steps.proofs.effect.Effect.add_all.Given as goal
 
 -- what was added so far, with the effects of the changes that are left, is the result

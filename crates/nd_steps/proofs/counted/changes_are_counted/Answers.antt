@@ -1,8 +1,0 @@
-use Rattle.nd_steps.proofs.CountedLemmas.{sent_changed, received_changed}
-use Rattle.nd_steps.proofs.counted.changes_are_counted.Goals as goal
-
-pub returns-clause-sent : goal.returns-clause-sent
-returns-clause-sent g = sent_changed
-
-pub returns-clause-received : goal.returns-clause-received
-returns-clause-received g = received_changed

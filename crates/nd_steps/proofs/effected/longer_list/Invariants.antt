@@ -1,7 +1,0 @@
-use Rattle.std.proofs.Common.{◌≡◌}
-use Rattle.nd_steps.specs.Altering.{longer_rows}
-use Rattle.nd_steps.proofs.effected.longer_list.Given as goal
-
--- the queues so far are listed
-abbrev pub invariant-loop-to : goal.invariant-loop-to
-invariant-loop-to g l = l.rows.items ≡ longer_rows l.mesh l.p l.to
