@@ -1,5 +1,5 @@
 -- The consequence of a take: what arrives for the record that is taken; and the changes of such a take.
-use Rattle.std.specs.Prelude.{ℕ, pos, negsuc, cond, List, [], ◌∷◌, ◌++◌, length, nat_lt, if◌then◌else◌}
+use Rattle.std.specs.Prelude.{ℕ, pos, negsuc, Bool, cond, List, [], ◌∷◌, ◌++◌, length, nat_lt, if◌then◌else◌}
 use Rattle.nd_time.specs.Time.{Time, ingress_of, egress_of, feedback_of, last_of}
 use Rattle.nd_time.specs.Limits.{max_depth, max_counter}
 use Rattle.nd_graph.specs.declared.op.Action.{Action}
@@ -28,25 +28,31 @@ come_key gone Nothing = gone
 come_key gone (Record action q edge value) = record_key edge (past_action action gone.point.time) value
 come_key gone (Count vertex) = gone
 
+-- the changes of what arrives when processor p takes the record `gone`, where `key` is the record that arrives, if one does
+abbrev pub arriving_as : ℕ → ValueAt → ValueAt → Come → List Change
+arriving_as p gone key Nothing = []
+arriving_as p gone key (Record action q edge value) = at_key q (Records key) (pos 1) ∷ at_key p (Unsent key.point) (pos 1) ∷ []
+arriving_as p gone key (Count vertex) = at_key p (Sink (record { vertex = vertex; value = gone.value })) (pos 1) ∷ []
+
 -- the changes of what arrives when processor p takes the record `gone`
 abbrev pub arriving : ℕ → ValueAt → Come → List Change
-arriving p gone Nothing = []
-arriving p gone (Record action q edge value) =
-    let key : ValueAt = come_key gone (Record action q edge value) in
-    at_key q (Records key) (pos 1) ∷ at_key p (Unsent key.point) (pos 1) ∷ []
-arriving p gone (Count vertex) = at_key p (Sink (record { vertex = vertex; value = gone.value })) (pos 1) ∷ []
+arriving p gone come = arriving_as p gone (come_key gone come) come
 
 -- the changes of a take by processor p with this consequence, in a fixed order
 abbrev pub come_changes : ℕ → ValueAt → Come → List Change
 come_changes p gone come = at_key p (Records gone) (negsuc 0) ∷ at_key p (Unsent gone.point) (negsuc 0) ∷ arriving p gone come
 
--- the same in the order in which they are applied: the record is removed last, and its pointstamp is removed from what is unsent
--- before what arrives is added, or after it if the flow is late
-abbrev pub flow_changes : ℕ → ValueAt → Flow → List Change
-flow_changes p gone f =
+-- the changes of a take in the order in which they are applied; `comes` are those of what arrives
+abbrev pub take_order : ℕ → ValueAt → Bool → List Change → List Change
+take_order p gone late comes =
     let unsent : Change = at_key p (Unsent gone.point) (negsuc 0) in
     let goes : List Change = at_key p (Records gone) (negsuc 0) ∷ [] in
-    cond f.late (arriving p gone f.come ++ unsent ∷ goes) (unsent ∷ arriving p gone f.come ++ goes)
+    cond late (comes ++ unsent ∷ goes) (unsent ∷ comes ++ goes)
+
+-- the changes of a flow: the record is removed last, and its pointstamp is removed from what is unsent before what arrives is added, or
+-- after it if the flow is late
+abbrev pub flow_changes : ℕ → ValueAt → Flow → List Change
+flow_changes p gone f = take_order p gone f.late (arriving p gone f.come)
 
 -- the changes that a flow stands for, in this order; none if the step is not a take
 abbrev pub keyed_flow : {A : Type 0} → Step A → Flow → List Change

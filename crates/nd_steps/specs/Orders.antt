@@ -1,5 +1,5 @@
 -- Changes in the order in which they are applied, and changes that are refused because of a limit.
-use Rattle.std.specs.Prelude.{ℕ, List}
+use Rattle.std.specs.Prelude.{◌≡◌, ℕ, Bool, true, false, List}
 use Rattle.nd_processor.specs.State.{ProcessorState}
 use Rattle.nd_processor.specs.declared.key.ValueAt.{ValueAt}
 use Rattle.nd_protocol.specs.State.{ClusterState}
@@ -18,6 +18,12 @@ use Rattle.nd_steps.specs.declared.flow.Flow.{Flow}
 -- all counts and all entries are within their limits afterwards
 abbrev pub StayWithin : List ProcessorState → List Change → Type 0
 StayWithin processors cs = Each (CountStays processors) cs × Each (EntryStays processors) cs
+
+-- the refusal names the first of the two limits that does not hold
+abbrev pub FailsFirst : Bool → Bool → Refusal → Type 0
+FailsFirst counts_stay entries_stay CountFull = counts_stay ≡ false
+FailsFirst counts_stay entries_stay DeltaFull = (counts_stay ≡ true) × (entries_stay ≡ false)
+FailsFirst counts_stay entries_stay _ = ⊥
 
 -- a count or an entry exceeds the limit that the refusal names; the limit of counts is tested before that of entries
 abbrev pub StayFails : List ProcessorState → List Change → Refusal → Type 0

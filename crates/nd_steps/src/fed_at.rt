@@ -3,8 +3,7 @@ ghost use Rattle.std.specs.Prelude.{◌≡◌, ◌≤◌, ◌+◌, ◌++◌, IfS
 ghost use Rattle.nd_steps.specs.Feeds.{arrived as arrived_at, announced, moved, fed_changes};
 
 use crate::feed::moves;
-use crate::flow::MOST;
-use crate::keyed::Keyed;
+use crate::keyed::{Keyed, MOST};
 use crate::{Change, Slot, record_at};
 use arrayvec::ArrayVec;
 use nd_processor::token_point;
@@ -134,8 +133,8 @@ impl FedAt {
                 let values = values.as_slice();
                 Keyed::fed(*self, values, self.moved(*p, *vertex, values.len()))
             }
-            Step::Take { .. } | Step::Notice { .. } | Step::Release { .. } => Keyed::whole(&[]),
-            Step::Send { .. } | Step::Broadcast { .. } | Step::Receive { .. } => Keyed::whole(&[]),
+            Step::Take { .. } | Step::Notice { .. } | Step::Release { .. } => Keyed::listed(&[]),
+            Step::Send { .. } | Step::Broadcast { .. } | Step::Receive { .. } => Keyed::listed(&[]),
         }
     }
 

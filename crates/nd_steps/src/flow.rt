@@ -1,19 +1,19 @@
 //! Takes that are kept in little memory: the consequence determines the changes.
-ghost use Rattle.std.specs.Prelude.{◌≡◌, ◌≤◌, ◌++◌, IfOk, IfErr, length};
-ghost use Rattle.nd_steps.specs.Orders.{CanReach, IsOrderedFlow, PassLimit};
-ghost use Rattle.nd_steps.specs.Flows.{arriving, come_changes, flow_changes, keyed_flow};
+ghost use Rattle.std.specs.Prelude.{◌≡◌, ◌<◌, ◌≤◌, IfOk, IfErr, OnOk, length, slice_index_or};
+ghost use Rattle.nd_steps.specs.Plans.{Each};
+ghost use Rattle.nd_steps.specs.Turns.{IsReadable, FirstLeaves};
+ghost use Rattle.nd_steps.specs.Orders.{CanReach, IsOrderedFlow, PassLimit, StayWithin, StayFails};
+ghost use Rattle.nd_steps.specs.Flows.{come_changes, flow_changes, keyed_flow};
+ghost use Rattle.nd_steps.specs.Keyed.{comes_in, taken_in};
 
 use crate::come::Come;
 use crate::keyed::Keyed;
-use crate::order::put_in_order;
+use crate::order::within;
+use crate::reading::reading_of;
 use crate::{Change, Slot, record_at};
-use arrayvec::ArrayVec;
 use nd_processor::{Processor, SinkKey, ValueAt};
 use nd_protocol::{Refusal, Step};
 use std::alloc::Allocator;
-
-// The most changes of a flow.
-pub(crate) const MOST: usize = 4;
 
 /// The part of a take's changes that the step doesn't determine: the consequence, and the order of the changes.
 #[derive(Clone, Copy, Debug, PartialEq, Eq, Drop)]
@@ -23,68 +23,85 @@ pub struct Flow {
     pub late: bool,
 }
 
-// Appends the changes of what arrives when processor `p` takes a record.
-fn push_arrivals(list: &mut ArrayVec<Change, MOST>, come: &Come, p: u32, gone: &ValueAt)
-    requires { length list.old.items ≤ 1 }
-    ensures list { list.new.items ≡ list.old.items ++ arriving p gone.now come.now }
-    ensures few { length list.new.items ≤ 3 }
-{
-    match come {
-        Come::Nothing => {}
-        Come::Record { p: to, .. } => {
-            let key = come.key(gone);
-            let point = key.point.copy();
-            list.push(Change {
-                p: *to,
-                slot: Slot::Records(key),
-                n: 1,
-            });
-            list.push(Change {
-                p,
-                slot: Slot::Unsent(point),
-                n: 1,
-            });
+// The changes of a take, in order. Each is built when it is asked for.
+#[derive(Drop)]
+pub(crate) struct TakeChanges {
+    p: u32,
+    gone: ValueAt,
+    // The record that arrives; `gone` itself if none arrives.
+    key: ValueAt,
+    flow: Flow,
+}
+
+impl TakeChanges {
+    // Returns the changes of processor `p`'s take of `gone`.
+    fn new(p: u32, gone: ValueAt, flow: Flow) -> TakeChanges
+        ensures { taken_in result ≡ flow_changes p gone flow }
+    {
+        let key = flow.come.key(&gone);
+        TakeChanges { p, gone, key, flow }
+    }
+
+    // Returns the number of changes by which something arrives.
+    fn comes(&self) -> usize
+        ensures many { result ≡ length (comes_in self.now) }
+        ensures few { result ≤ 2 }
+    {
+        match self.flow.come {
+            Come::Nothing => 0,
+            Come::Record { .. } => 2,
+            Come::Count { .. } => 1,
         }
-        Come::Count { vertex } => {
-            let key = SinkKey {
-                vertex: *vertex,
-                value: gone.value,
-            };
-            list.push(Change {
-                p,
-                slot: Slot::Sink(key),
-                n: 1,
-            });
+    }
+
+    // Returns change `i` of those by which something arrives.
+    fn come_at(&self, i: usize) -> Change
+        requires { i < length (comes_in self.now) }
+        ensures { result ≡ slice_index_or (comes_in self.now) i result }
+    {
+        let (p, slot) = match self.flow.come {
+            Come::Nothing => unreachable!(),
+            Come::Record { p, .. } if i == 0 => (p, Slot::Records(self.key.copy())),
+            Come::Record { .. } => (self.p, Slot::Unsent(self.key.point.copy())),
+            Come::Count { vertex } => {
+                let value = self.gone.value;
+                (self.p, Slot::Sink(SinkKey { vertex, value }))
+            }
+        };
+        Change { p, slot, n: 1 }
+    }
+
+    // Returns the number of changes.
+    pub(crate) fn len(&self) -> usize
+        ensures { result ≡ length (taken_in self.now) }
+    {
+        self.comes() + 2
+    }
+
+    // Returns change `i`.
+    pub(crate) fn at(&self, i: usize) -> Change
+        requires { i < length (taken_in self.now) }
+        ensures { result ≡ slice_index_or (taken_in self.now) i result }
+    {
+        let comes = self.comes();
+        let before = if self.flow.late { 0 } else { 1 };
+        if i >= before && i - before < comes {
+            return self.come_at(i - before);
+        }
+        let slot = if i > comes {
+            Slot::Records(self.gone.copy())
+        } else {
+            Slot::Unsent(self.gone.point.copy())
+        };
+        Change {
+            p: self.p,
+            slot,
+            n: -1,
         }
     }
 }
 
 impl Flow {
-    // Lists the changes of the take of `gone` by processor `p`, in order. The key goes into the last change.
-    fn changes(&self, p: u32, gone: ValueAt) -> ArrayVec<Change, MOST>
-        ensures { result.items ≡ flow_changes p gone self.now }
-    {
-        let unsent = Change {
-            p,
-            slot: Slot::Unsent(gone.point.copy()),
-            n: -1,
-        };
-        let mut list = ArrayVec::new();
-        if self.late {
-            push_arrivals(&mut list, &self.come, p, &gone);
-            list.push(unsent);
-        } else {
-            list.push(unsent);
-            push_arrivals(&mut list, &self.come, p, &gone);
-        }
-        list.push(Change {
-            p,
-            slot: Slot::Records(gone),
-            n: -1,
-        });
-        list
-    }
-
     // Lists the changes of a step, in order; none if the step is not a take.
     pub(crate) fn keyed<'a, A: Allocator>(&self, step: &'a Step<A>) -> Keyed<'a>
         ensures { result ≡ keyed_flow step.now self.now }
@@ -95,10 +112,36 @@ impl Flow {
                 edge,
                 time,
                 value,
-            } => Keyed::few(self.changes(*p, record_at(*edge, time, *value))),
-            Step::Feed { .. } | Step::Notice { .. } | Step::Release { .. } => Keyed::whole(&[]),
-            Step::Send { .. } | Step::Broadcast { .. } | Step::Receive { .. } => Keyed::whole(&[]),
+            } => Keyed::taken(TakeChanges::new(*p, record_at(*edge, time, *value), *self)),
+            Step::Feed { .. } | Step::Notice { .. } | Step::Release { .. } => Keyed::listed(&[]),
+            Step::Send { .. } | Step::Broadcast { .. } | Step::Receive { .. } => Keyed::listed(&[]),
         }
+    }
+}
+
+// Tests the limits of a take: that of counts before that of entries. Looks each place up once. Returns whether the integer at the
+// place of the first change is not 0 afterwards.
+fn read_all<A: Allocator + Copy>(
+    processors: &[Processor<A>],
+    changes: &TakeChanges,
+) -> Result<bool, Refusal>
+    requires { Each (IsReadable processors.now) (taken_in changes.now) }
+    ensures first { IfOk result (FirstLeaves processors.now (taken_in changes.now)) }
+    ensures within { OnOk result (StayWithin processors.now (taken_in changes.now)) }
+    ensures refused { IfErr result (StayFails processors.now (taken_in changes.now)) }
+{
+    let mut counts_stay = true;
+    let mut entries_stay = true;
+    let mut first = false;
+    for i in 0..changes.len() {
+        let reading = reading_of(processors, &changes.at(i));
+        counts_stay &= reading.count_stays;
+        entries_stay &= reading.entry_stays;
+        first |= (i == 0) & reading.leaves;
+    }
+    match within(counts_stay, entries_stay) {
+        Ok(()) => Ok(first),
+        Err(refusal) => Err(refusal),
     }
 }
 
@@ -115,8 +158,7 @@ pub fn ordered_flow<A: Allocator + Copy>(
     ensures ok { IfOk result (IsOrderedFlow processors.now p gone.now come) }
     ensures refused { IfErr result (PassLimit processors.now (come_changes p gone.now come)) }
 {
-    let early = Flow { come, late: false };
-    let mut changes = early.changes(p, gone.copy());
-    let late = !put_in_order(processors, &mut changes)?;
+    let early = TakeChanges::new(p, gone.copy(), Flow { come, late: false });
+    let late = !read_all(processors, &early)?;
     Ok(Flow { come, late })
 }

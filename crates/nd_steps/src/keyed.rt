@@ -2,50 +2,44 @@
 ghost use Rattle.std.specs.Prelude.{◌≡◌, ◌<◌, ◌++◌, IsTrue, length, map, slice_index_or};
 ghost use Rattle.std.specs.Cow.{cow_value};
 ghost use Rattle.nd_steps.specs.Feeds.{arrived};
-ghost use Rattle.nd_steps.specs.Keyed.{changes_in};
+ghost use Rattle.nd_steps.specs.Keyed.{taken_in};
 
-use crate::flow::MOST;
+use crate::flow::TakeChanges;
 use crate::{Change, FedAt};
 use arrayvec::ArrayVec;
 use std::borrow::Cow;
 use std::marker::Model;
 
-// Changes in place, or in a list of the record.
+// The most changes of a feed beside those by which values arrive.
+pub(crate) const MOST: usize = 4;
+
+// What determines changes.
 #[derive(Drop)]
-pub(crate) enum Rest<'a> {
-    Few(ArrayVec<Change, MOST>),
-    Many(&'a [Change]),
+enum Origin<'a> {
+    // A feed: one change for each value that arrives, and then the rest.
+    Fed {
+        at: FedAt,
+        values: &'a [i64],
+        rest: ArrayVec<Change, MOST>,
+    },
+    Taken(TakeChanges),
+    Listed(&'a [Change]),
 }
 
-/// Changes, in order: one for each value that arrives, and then the rest. No change of the rest is copied.
+/// Changes, in order. No change of a list is copied.
 #[derive(Drop)]
 pub(crate) struct Keyed<'a> {
-    at: FedAt,
-    values: &'a [i64],
-    rest: Rest<'a>,
+    origin: Origin<'a>,
 }
 
 impl<'a> Model for Keyed<'a> {
-    ghost use Rattle.std.specs.Prelude.{List, ◌++◌, map};
-    ghost use Rattle.nd_steps.specs.Feeds.{arrived};
+    ghost use Rattle.std.specs.Prelude.{List};
     ghost use Rattle.nd_steps.specs.Keyed.{changes_in};
     ghost use Rattle.nd_steps.specs.declared.change.Change.{Change};
 
     ghost Value = { List Change };
 
-    ghost view = { λ a. map (arrived a.at) a.values.now ++ changes_in a.rest };
-}
-
-impl<'a> Rest<'a> {
-    // Returns the changes.
-    fn as_slice(&self) -> &[Change]
-        ensures { result.now ≡ changes_in self.now }
-    {
-        match self {
-            Rest::Few(changes) => changes.as_slice(),
-            Rest::Many(changes) => changes,
-        }
-    }
+    ghost view = { λ k. changes_in k.origin };
 }
 
 impl<'a> Keyed<'a> {
@@ -53,45 +47,57 @@ impl<'a> Keyed<'a> {
     pub(crate) fn fed(at: FedAt, values: &'a [i64], rest: ArrayVec<Change, MOST>) -> Keyed<'a>
         ensures { result ≡ map (arrived at) values.now ++ rest.items }
     {
-        let rest = Rest::Few(rest);
-        Keyed { at, values, rest }
+        let origin = Origin::Fed { at, values, rest };
+        Keyed { origin }
     }
 
-    // Returns a few changes.
-    pub(crate) fn few(changes: ArrayVec<Change, MOST>) -> Keyed<'a>
-        ensures { result ≡ changes.items }
+    // Returns the changes of a take.
+    pub(crate) fn taken(changes: TakeChanges) -> Keyed<'a>
+        ensures { result ≡ taken_in changes }
     {
-        Keyed::fed(FedAt::default(), &[], changes)
+        let origin = Origin::Taken(changes);
+        Keyed { origin }
     }
 
     // Returns the changes of a list.
-    pub(crate) fn whole(changes: &'a [Change]) -> Keyed<'a>
+    pub(crate) fn listed(changes: &'a [Change]) -> Keyed<'a>
         ensures { result ≡ changes.now }
     {
-        Keyed {
-            at: FedAt::default(),
-            values: &[],
-            rest: Rest::Many(changes),
-        }
+        let origin = Origin::Listed(changes);
+        Keyed { origin }
     }
 
     // Returns the number of changes.
     pub(crate) fn len(&self) -> usize
         ensures { result ≡ length self.now }
     {
-        self.values.len() + self.rest.as_slice().len()
+        match &self.origin {
+            Origin::Fed {
+                at: _,
+                values,
+                rest,
+            } => values.len() + rest.len(),
+            Origin::Taken(changes) => changes.len(),
+            Origin::Listed(changes) => changes.len(),
+        }
     }
 
-    // Returns change `i`. It is built if a value arrives by it.
+    // Returns change `i`. It is built if it is not in a list.
     pub(crate) fn at(&self, i: usize) -> Cow<'_, Change>
         requires { i < length self.now }
         ensures { cow_value result ≡ slice_index_or self.now i (cow_value result) }
     {
-        let count = self.values.len();
-        if i < count {
-            return Cow::Owned(self.at.arrived(self.values[i]));
+        match &self.origin {
+            Origin::Fed { at, values, rest } => {
+                let count = values.len();
+                if i < count {
+                    return Cow::Owned(at.arrived(values[i]));
+                }
+                Cow::Borrowed(&rest[i - count])
+            }
+            Origin::Taken(changes) => Cow::Owned(changes.at(i)),
+            Origin::Listed(changes) => Cow::Borrowed(changes.get(i).unwrap()),
         }
-        Cow::Borrowed(&self.rest.as_slice()[i - count])
     }
 
     // Returns whether these are the changes.

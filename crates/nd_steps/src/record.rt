@@ -66,7 +66,7 @@ impl<A: Allocator + Copy> Changes<A> {
         ensures { IfOk result (AreEqual self.now) }
     {
         match self {
-            Changes::Each(changes) => { Ok(Changes::Each(copied(alloc, &Keyed::whole(changes))?)) }
+            Changes::Each(changes) => { Ok(Changes::Each(copied(alloc, &Keyed::listed(changes))?)) }
             Changes::Flowed(flow) => Ok(Changes::Flowed(*flow)),
             Changes::Fed(at) => Ok(Changes::Fed(*at)),
             Changes::Sent { p, part } => Ok(Changes::Sent {
@@ -100,10 +100,10 @@ impl<A: Allocator + Copy> Record<A> {
         ensures { result ≡ keyed self.now.step self.now.changes }
     {
         match &self.changes {
-            Changes::Each(changes) => Keyed::whole(changes),
+            Changes::Each(changes) => Keyed::listed(changes),
             Changes::Flowed(flow) => flow.keyed(&self.step),
             Changes::Fed(at) => at.keyed(&self.step),
-            Changes::Sent { .. } | Changes::Received { .. } => Keyed::whole(&[]),
+            Changes::Sent { .. } | Changes::Received { .. } => Keyed::listed(&[]),
         }
     }
 

@@ -1,18 +1,19 @@
-use Rattle.std.proofs.Common.{◌<◌, length, arith}
+use Rattle.std.proofs.Common.{◌<◌, length, ◌∙◌, sym, arith}
+use Rattle.std.proofs.lemmas.Result.{on_ok_weaker, IfErr-weaker}
 use Rattle.nd_steps.specs.Turns.{IsReadable}
 use Rattle.nd_steps.proofs.EachLemmas.{each_at, each_moved}
-use Rattle.nd_steps.proofs.TurnsLemmas.{none_yet, unseen, see_more, one_goes, one_leaves, in_order, all_within, count_fails, entry_fails}
+use Rattle.nd_steps.proofs.TurnsLemmas.{none_yet, one_goes, one_leaves, in_order, all_within, some_fails}
 use Rattle.nd_steps.proofs.order.put_in_order.Goals as goal
 use Rattle.nd_steps.proofs.order.put_in_order.Goals.{then-reading, else-reading}
 
 pub loop-i-init : goal.loop-i-init
-loop-i-init g c = record { put = none_yet c.args.processors.now c.args.changes.now; seen = unseen c.args.processors.now c.args.changes.now }
+loop-i-init g c = none_yet c.args.processors.now c.args.changes.now
 
 pub reading_of-reading-requires : goal.reading_of-reading-requires
 reading_of-reading-requires g c =
     let P = IsReadable c.args.processors.now in
     let lt : c.loop-i.i < length c.loop-i.changes = omega (arith, c.loop-i-test.true, c.loop-i.auto.changes) in
-    each_at P c.loop-i.changes c.loop-i.i c.index-changes-i.result (each_moved P c.args.changes.now c.loop-i.changes c.loop-i.invariant.put.same c.requires) lt
+    each_at P c.loop-i.changes c.loop-i.i c.index-changes-i.result (each_moved P c.args.changes.now c.loop-i.changes c.loop-i.invariant.same c.requires) lt
 
 pub loop-i-preserved : goal.loop-i-preserved
 loop-i-preserved g c =
@@ -21,39 +22,20 @@ loop-i-preserved g c =
     let l = c.loop-i in
     let r = c.reading_of-reading in
     let lt : l.i < length all = c.loop-i-test.true in
-    let seen = see_more ps all l.changes l.turn l.i l.counts_stay l.entries_stay l.first l.invariant.put l.invariant.seen lt c.index-changes-i.result r.result.leaves r.ensures.leaves in
     elim c.if-reading.branch [
       | then-reading w ↦ rw (w.changes-is, w.turn-is)
-          (record {
-            seen = seen;
-            put = one_leaves ps all l.changes l.turn l.i l.counts_stay l.entries_stay l.invariant.put lt c.index-changes-i.result r.result.count_stays r.result.entry_stays r.ensures.count r.ensures.entry
-                (r.ensures.leaves.0 w.if-reading.true) w.swap.new.self w.swap.ensures.permutation w.swap.ensures.after;
-          })
+          (one_leaves ps all l.changes l.turn l.i l.counts_stay l.entries_stay l.invariant lt c.index-changes-i.result r.result.count_stays r.result.entry_stays r.ensures.count r.ensures.entry
+          (r.ensures.leaves.0 w.if-reading.true) w.swap.new.self w.swap.ensures.permutation w.swap.ensures.after)
       | else-reading w ↦ rw (w.changes-is, w.turn-is)
-          (record {
-            seen = seen;
-            put = one_goes ps all l.changes l.turn l.i l.counts_stay l.entries_stay l.invariant.put lt c.index-changes-i.result r.result.count_stays r.result.entry_stays r.ensures.count r.ensures.entry
-                (λ some. let t = r.ensures.leaves.1 some in absurd (cc (w.if-reading.false, t)));
-          })
+          (one_goes ps all l.changes l.turn l.i l.counts_stay l.entries_stay l.invariant lt c.index-changes-i.result r.result.count_stays r.result.entry_stays r.ensures.count r.ensures.entry
+          (λ some. let t = r.ensures.leaves.1 some in absurd (cc (w.if-reading.false, t))))
     ]
 
-pub returns-then-not-counts_stay-clause-order : goal.returns-then-not-counts_stay-clause-order
-returns-then-not-counts_stay-clause-order g c = in_order c.loop-i.invariant.put c.loop-i-test.false
-
-pub returns-then-not-counts_stay-clause-refused : goal.returns-then-not-counts_stay-clause-refused
-returns-then-not-counts_stay-clause-refused g c = count_fails c.loop-i.invariant.put c.loop-i-test.false c.if-not-counts_stay.true
-
-pub returns-then-not-entries_stay-clause-order : goal.returns-then-not-entries_stay-clause-order
-returns-then-not-entries_stay-clause-order g c = in_order c.loop-i.invariant.put c.loop-i-test.false
-
-pub returns-then-not-entries_stay-clause-refused : goal.returns-then-not-entries_stay-clause-refused
-returns-then-not-entries_stay-clause-refused g c = entry_fails c.loop-i.invariant.put c.loop-i-test.false c.if-not-counts_stay.false c.if-not-entries_stay.true
-
 pub returns-clause-order : goal.returns-clause-order
-returns-clause-order g c = in_order c.loop-i.invariant.put c.loop-i-test.false
+returns-clause-order g c = in_order c.loop-i.invariant c.loop-i-test.false
 
 pub returns-clause-within : goal.returns-clause-within
-returns-clause-within g c = all_within c.loop-i.invariant.put c.loop-i-test.false c.if-not-counts_stay.false c.if-not-entries_stay.false
+returns-clause-within g c = on_ok_weaker c.within.result (all_within c.loop-i.invariant.read c.loop-i-test.false) c.within.ensures.ok
 
-pub returns-clause-first : goal.returns-clause-first
-returns-clause-first g c = λ d some. c.loop-i.invariant.seen.known d (omega (arith, some, c.loop-i-test.false))
+pub returns-clause-refused : goal.returns-clause-refused
+returns-clause-refused g c = IfErr-weaker c.within.result _ _ (some_fails c.loop-i.invariant.read c.loop-i-test.false) c.within.ensures.err
