@@ -67,7 +67,8 @@ fn start_processors<A: Allocator + Copy>(
 {
     let mut processors = Vec::new(alloc);
     for _ in 0..n {
-        processors.push(Processor::start(alloc, graph)?)?;
+        let processor = Processor::start(alloc, graph)?;
+        processors.push(processor)?;
     }
     Ok(processors)
 }

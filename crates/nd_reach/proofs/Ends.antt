@@ -1,8 +1,8 @@
 -- The answer of a search that has ended.
-use Rattle.std.proofs.Common.{◌≡◌, ◌∙◌, ℕ, ◌+◌, ◌-◌, List, [], ◌∷◌, ◌++◌, length, refl, sym, ap, subst, arith, length-append, Option, Some, None, true, false}
+use Rattle.std.proofs.Common.{◌≡◌, ◌∙◌, ℕ, ◌+◌, ◌-◌, List, [], ◌∷◌, ◌++◌, length, refl, sym, ap, subst, arith, length-append, Option, Some, None, true}
 use Rattle.std.specs.Prelude.{slice_get}
 use Rattle.nd_protocol.specs.declared.step.Step.{Step}
-use Rattle.nd_reach.specs.Found.{Wanted, HasSearched, IsHit, IsFull, HasEnded, HasRun}
+use Rattle.nd_reach.specs.Found.{Wanted, HasSearched, IsHit, HasEnded, HasRun}
 use Rattle.nd_reach.specs.declared.search.End.{End}
 use Rattle.nd_reach.specs.declared.search.End.TheVariants.{Hit}
 use Rattle.nd_reach.specs.Reach.{HoldsAfter, IsReached}
@@ -28,17 +28,6 @@ module _ {A : Type 0} (q : Wanted) (forms : List (List ℕ)) (nodes : List (Node
     within = h.within;
     none = h.none;
     there = subst (HoldsAfter q.when q.start) (sym is) h.there;
-  }
-
-  pub full_reached : (h : IsFull q nodes) (n : ℕ) → n ≡ length nodes → IsReached {A = A} q.allowed q.when q.limit q.start (Nowhere n false)
-  full_reached h n is = record {
-    ways = h.ways;
-    first = h.first;
-    count = is ∙ h.count;
-    within = omega (arith, is, h.count, h.limit);
-    none = h.none;
-    all = (λ e. absurd (cc (e)), λ all. absurd (h.others all));
-    full = λ _. is ∙ (h.count ∙ h.limit);
   }
 
   pub all_reached : (h : HasSearched q forms nodes (length nodes)) (n : ℕ) → n ≡ length nodes → IsReached {A = A} q.allowed q.when q.limit q.start (Nowhere n true)
