@@ -3,8 +3,6 @@ use Rattle.std.proofs.Common.{◌≡◌, ◌<◌, ◌≤◌, ◌+◌, ℕ, ℤ, 
 use Rattle.std.proofs.lemmas.Int.{ints}
 use Rattle.std.proofs.lemmas.List.{take_more, take_all}
 use Rattle.std.proofs.lemmas.Map.Views.{tells_apart}
-use Rattle.std.specs.Cow.{cow_value}
-use Rattle.std.specs.declared.borrow.Cow.{Cow}
 use Rattle.std.specs.Ordering.{eq_by_cmp}
 use Rattle.nd_map.specs.Cases.{again}
 use Rattle.nd_protocol.specs.State.{ClusterState}
@@ -92,7 +90,7 @@ all_made s cs k past = ap (applied s) (take_all k cs past)
 -- ---- a change of the list, in a state that equals the one there
 
 -- a change of the list as it is read
-pub read_as : (cs : List Change) (k : ℕ) (r : Cow Change) (c : Change) → c ≡ cow_value r → cow_value r ≡ get_or cs k (cow_value r) → c ≡ get_or cs k c
+pub read_as : (cs : List Change) (k : ℕ) (r c : Change) → c ≡ r → r ≡ get_or cs k r → c ≡ get_or cs k c
 read_as cs k r c e is = subst (λ d. d ≡ get_or cs k d) (sym e) is
 
 module _ (s : ClusterState) (cs : List Change) (runs : IsRunnable s cs) (k : ℕ) (c : Change) (is : c ≡ get_or cs k c) (lt : k < length cs) (t : ClusterState) where

@@ -2,6 +2,7 @@ pub mod Places
 pub mod Slots
 pub mod Integers
 pub mod Changes
+pub mod Borrowed
 pub mod Undos
 pub mod Plans
 pub mod Fronts

@@ -6,8 +6,9 @@ ghost use Rattle.nd_protocol.specs.Ranges.{IsValue};
 ghost use Rattle.nd_steps.specs.declared.slot.Slot.TheVariants.{Records, Token, State, Sink, Unsent};
 ghost use Rattle.nd_steps.specs.Slots.{from_epoch, stands};
 ghost use Rattle.nd_steps.specs.Changes.{made_in, FitsIn};
+ghost use Rattle.nd_steps.specs.Borrowed.{slot_of};
 
-use crate::Slot;
+use crate::slot::KeyRef;
 use nd_delta::DeltaFault;
 use nd_paths::Pointstamp;
 use nd_processor::{CountFault, Processor, SinkKey, ValueAt};
@@ -161,26 +162,26 @@ fn more_of_item<A: Allocator + Copy>(
 // Adds `n` at a key. It takes no memory if the integer at the key is not 0.
 pub(crate) fn make_in<A: Allocator + Copy>(
     processor: &mut Processor<A>,
-    slot: &Slot,
+    key: &KeyRef<'_>,
     n: i128,
 ) -> Result<(), AllocError>
-    requires { FitsIn processor.old slot.now n }
-    ensures ok { OnOk result (processor.new ≡ made_in processor.old slot.now n) }
+    requires { FitsIn processor.old (slot_of key.now) n }
+    ensures ok { OnOk result (processor.new ≡ made_in processor.old (slot_of key.now) n) }
     ensures err { OnErr result (processor.new ≡ processor.old) }
-    ensures absent { OnErr result (stands processor.old slot.now ≡ pos 0) }
+    ensures absent { OnErr result (stands processor.old (slot_of key.now) ≡ pos 0) }
 {
-    match slot {
-        Slot::Records(key) => more_records(processor, key, n),
-        Slot::Request(point) => {
+    match key {
+        KeyRef::Records(key) => more_records(processor, key, n),
+        KeyRef::Request(point) => {
             if n > 0 {
                 return processor.add_request(point);
             }
             processor.drop_request(point);
             Ok(())
         }
-        Slot::Token(vertex) => move_token(processor, *vertex, n),
-        Slot::State { vertex, key } => more_of_item(processor, *vertex, key, n),
-        Slot::Sink(key) => count_more(processor, key, n),
-        Slot::Unsent(point) => more_unsent(processor, point, n),
+        KeyRef::Token(vertex) => move_token(processor, *vertex, n),
+        KeyRef::State { vertex, key } => more_of_item(processor, *vertex, key, n),
+        KeyRef::Sink(key) => count_more(processor, key, n),
+        KeyRef::Unsent(point) => more_unsent(processor, point, n),
     }
 }

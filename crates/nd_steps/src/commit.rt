@@ -21,6 +21,9 @@ pub fn commit_record<A: Allocator + Copy>(
     ensures ok { OnOk result (IsWhere (Makes parts.old planned.now) parts.new) }
     ensures err { OnErr result (parts.new ≡ parts.old) }
 {
+    if let Some(changes) = planned.taken() {
+        return make_all(parts, &changes);
+    }
     match &planned.changes {
         Changes::Each(_) | Changes::Flowed(_) | Changes::Fed(_) => {
             make_all(parts, &planned.keyed())
@@ -42,6 +45,9 @@ pub fn undo_record<A: Allocator + Copy>(
     ensures ok { OnOk result (IsBackAt (λ s. Makes s made.now parts.old) parts.new) }
     ensures err { OnErr result (parts.new ≡ parts.old) }
 {
+    if let Some(changes) = made.taken() {
+        return undo_all(parts, &changes);
+    }
     match &made.changes {
         Changes::Each(_) | Changes::Flowed(_) | Changes::Fed(_) => undo_all(parts, &made.keyed()),
         Changes::Sent { p, part } => unsend(parts, *p as usize, part),

@@ -1,16 +1,20 @@
 //! Takes that are kept in little memory: the consequence determines the changes.
-ghost use Rattle.std.specs.Prelude.{◌≡◌, ◌<◌, ◌≤◌, IfOk, IfErr, OnOk, length, slice_index_or};
+ghost use Rattle.std.specs.Prelude.{◌≡◌, ◌<◌, ◌≤◌, [], IfOk, IfErr, IfSome, IsNone, OnOk, length, slice_index_or};
 ghost use Rattle.nd_steps.specs.Plans.{Each};
 ghost use Rattle.nd_steps.specs.Turns.{IsReadable, FirstLeaves};
 ghost use Rattle.nd_steps.specs.Orders.{CanReach, IsOrderedFlow, PassLimit, StayWithin, StayFails};
 ghost use Rattle.nd_steps.specs.Flows.{come_changes, flow_changes, keyed_flow};
 ghost use Rattle.nd_steps.specs.Keyed.{comes_in, taken_in};
+ghost use Rattle.nd_steps.specs.Borrowed.{change_of};
 
+use crate::change::ChangeRef;
 use crate::come::Come;
 use crate::keyed::Keyed;
+use crate::listing::{ChangeAt, Listing};
 use crate::order::within;
 use crate::reading::reading_of;
-use crate::{Change, Slot, record_at};
+use crate::record_at;
+use crate::slot::KeyRef;
 use nd_processor::{Processor, SinkKey, ValueAt};
 use nd_protocol::{Refusal, Step};
 use std::alloc::Allocator;
@@ -23,7 +27,7 @@ pub struct Flow {
     pub late: bool,
 }
 
-// The changes of a take, in order. Each is built when it is asked for.
+// The changes of a take, in order. Each is built when it is asked for, and no key is copied.
 #[derive(Drop)]
 pub(crate) struct TakeChanges {
     p: u32,
@@ -55,56 +59,69 @@ impl TakeChanges {
     }
 
     // Returns change `i` of those by which something arrives.
-    fn come_at(&self, i: usize) -> Change
+    fn come_at(&self, i: usize) -> ChangeRef<'_>
         requires { i < length (comes_in self.now) }
-        ensures { result ≡ slice_index_or (comes_in self.now) i result }
+        ensures { change_of result ≡ slice_index_or (comes_in self.now) i (change_of result) }
     {
-        let (p, slot) = match self.flow.come {
+        let (p, key) = match self.flow.come {
             Come::Nothing => unreachable!(),
-            Come::Record { p, .. } if i == 0 => (p, Slot::Records(self.key.copy())),
-            Come::Record { .. } => (self.p, Slot::Unsent(self.key.point.copy())),
+            Come::Record { p, .. } if i == 0 => (p, KeyRef::Records(&self.key)),
+            Come::Record { .. } => (self.p, KeyRef::Unsent(&self.key.point)),
             Come::Count { vertex } => {
                 let value = self.gone.value;
-                (self.p, Slot::Sink(SinkKey { vertex, value }))
+                (self.p, KeyRef::Sink(SinkKey { vertex, value }))
             }
         };
-        Change { p, slot, n: 1 }
+        ChangeRef { p, key, n: 1 }
     }
 
     // Returns the number of changes.
-    pub(crate) fn len(&self) -> usize
+    pub(crate) fn count(&self) -> usize
         ensures { result ≡ length (taken_in self.now) }
     {
         self.comes() + 2
     }
 
     // Returns change `i`.
-    pub(crate) fn at(&self, i: usize) -> Change
+    pub(crate) fn change(&self, i: usize) -> ChangeRef<'_>
         requires { i < length (taken_in self.now) }
-        ensures { result ≡ slice_index_or (taken_in self.now) i result }
+        ensures { change_of result ≡ slice_index_or (taken_in self.now) i (change_of result) }
     {
         let comes = self.comes();
         let before = if self.flow.late { 0 } else { 1 };
         if i >= before && i - before < comes {
             return self.come_at(i - before);
         }
-        let slot = if i > comes {
-            Slot::Records(self.gone.copy())
+        let key = if i > comes {
+            KeyRef::Records(&self.gone)
         } else {
-            Slot::Unsent(self.gone.point.copy())
+            KeyRef::Unsent(&self.gone.point)
         };
-        Change {
+        ChangeRef {
             p: self.p,
-            slot,
+            key,
             n: -1,
         }
     }
 }
 
+impl Listing for TakeChanges {
+    ghost listed = { taken_in };
+
+    fn len(&self) -> usize {
+        self.count()
+    }
+
+    fn at(&self, i: usize) -> ChangeAt<'_> {
+        ChangeAt::Borrowed(self.change(i))
+    }
+}
+
 impl Flow {
-    // Lists the changes of a step, in order; none if the step is not a take.
-    pub(crate) fn keyed<'a, A: Allocator>(&self, step: &'a Step<A>) -> Keyed<'a>
-        ensures { result ≡ keyed_flow step.now self.now }
+    // Returns the changes of a step, if it is a take.
+    pub(crate) fn taken<A: Allocator>(&self, step: &Step<A>) -> Option<TakeChanges>
+        ensures some { IfSome result (λ t. taken_in t ≡ keyed_flow step.now self.now) }
+        ensures none { IsNone result → keyed_flow step.now self.now ≡ [] }
     {
         match step {
             Step::Take {
@@ -112,9 +129,19 @@ impl Flow {
                 edge,
                 time,
                 value,
-            } => Keyed::taken(TakeChanges::new(*p, record_at(*edge, time, *value), *self)),
-            Step::Feed { .. } | Step::Notice { .. } | Step::Release { .. } => Keyed::listed(&[]),
-            Step::Send { .. } | Step::Broadcast { .. } | Step::Receive { .. } => Keyed::listed(&[]),
+            } => Some(TakeChanges::new(*p, record_at(*edge, time, *value), *self)),
+            Step::Feed { .. } | Step::Notice { .. } | Step::Release { .. } => None,
+            Step::Send { .. } | Step::Broadcast { .. } | Step::Receive { .. } => None,
+        }
+    }
+
+    // Lists the changes of a step, in order; none if the step is not a take.
+    pub(crate) fn keyed<'a, A: Allocator>(&self, step: &'a Step<A>) -> Keyed<'a>
+        ensures { result ≡ keyed_flow step.now self.now }
+    {
+        match self.taken(step) {
+            Some(changes) => Keyed::taken(changes),
+            None => Keyed::listed(&[]),
         }
     }
 }
@@ -133,8 +160,8 @@ fn read_all<A: Allocator + Copy>(
     let mut counts_stay = true;
     let mut entries_stay = true;
     let mut first = false;
-    for i in 0..changes.len() {
-        let reading = reading_of(processors, &changes.at(i));
+    for i in 0..changes.count() {
+        let reading = reading_of(processors, &changes.change(i));
         counts_stay &= reading.count_stays;
         entries_stay &= reading.entry_stays;
         first |= (i == 0) & reading.leaves;

@@ -1,13 +1,12 @@
-//! The changes of a feed, a take, a notice, a release or a send, by their indices.
+//! The changes of a feed, a take, a notice, a release or a send.
 ghost use Rattle.std.specs.Prelude.{◌≡◌, ◌<◌, ◌++◌, IsTrue, length, map, slice_index_or};
-ghost use Rattle.std.specs.Cow.{cow_value};
 ghost use Rattle.nd_steps.specs.Feeds.{arrived};
 ghost use Rattle.nd_steps.specs.Keyed.{taken_in};
 
 use crate::flow::TakeChanges;
+use crate::listing::{ChangeAt, Listing};
 use crate::{Change, FedAt};
 use arrayvec::ArrayVec;
-use std::borrow::Cow;
 use std::marker::Model;
 
 // The most changes of a feed beside those by which values arrive.
@@ -67,10 +66,26 @@ impl<'a> Keyed<'a> {
         Keyed { origin }
     }
 
-    // Returns the number of changes.
-    pub(crate) fn len(&self) -> usize
-        ensures { result ≡ length self.now }
+    // Returns whether these are the changes.
+    pub(crate) fn is(&self, changes: &[Change]) -> bool
+        ensures { IsTrue result → self.now ≡ changes.now }
     {
+        if self.len() != changes.len() {
+            return false;
+        }
+        for i in 0..changes.len() {
+            if !self.at(i).borrowed().same(&changes[i].borrowed()) {
+                return false;
+            }
+        }
+        true
+    }
+}
+
+impl<'a> Listing for Keyed<'a> {
+    ghost listed = { λ k. k };
+
+    fn len(&self) -> usize {
         match &self.origin {
             Origin::Fed {
                 at: _,
@@ -83,35 +98,17 @@ impl<'a> Keyed<'a> {
     }
 
     // Returns change `i`. It is built if it is not in a list.
-    pub(crate) fn at(&self, i: usize) -> Cow<'_, Change>
-        requires { i < length self.now }
-        ensures { cow_value result ≡ slice_index_or self.now i (cow_value result) }
-    {
+    fn at(&self, i: usize) -> ChangeAt<'_> {
         match &self.origin {
             Origin::Fed { at, values, rest } => {
                 let count = values.len();
                 if i < count {
-                    return Cow::Owned(at.arrived(values[i]));
+                    return ChangeAt::Owned(at.arrived(values[i]));
                 }
-                Cow::Borrowed(&rest[i - count])
+                ChangeAt::Borrowed(rest[i - count].borrowed())
             }
-            Origin::Taken(changes) => Cow::Owned(changes.at(i)),
-            Origin::Listed(changes) => Cow::Borrowed(changes.get(i).unwrap()),
+            Origin::Taken(changes) => ChangeAt::Borrowed(changes.change(i)),
+            Origin::Listed(changes) => ChangeAt::Borrowed(changes.get(i).unwrap().borrowed()),
         }
-    }
-
-    // Returns whether these are the changes.
-    pub(crate) fn is(&self, changes: &[Change]) -> bool
-        ensures { IsTrue result → self.now ≡ changes.now }
-    {
-        if self.len() != changes.len() {
-            return false;
-        }
-        for i in 0..changes.len() {
-            if !self.at(i).same(&changes[i]) {
-                return false;
-            }
-        }
-        true
     }
 }

@@ -17,6 +17,7 @@ mod feed;
 mod flow;
 mod keyed;
 mod laws;
+mod listing;
 mod onward;
 mod operator;
 mod order;

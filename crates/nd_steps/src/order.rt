@@ -39,7 +39,7 @@ fn put_in_order<A: Allocator + Copy>(
     let mut entries_stay = true;
     let mut turn = 0;
     for i in 0..changes.len() {
-        let reading = reading_of(processors, &changes[i]);
+        let reading = reading_of(processors, &changes[i].borrowed());
         counts_stay &= reading.count_stays;
         entries_stay &= reading.entry_stays;
         if reading.leaves {

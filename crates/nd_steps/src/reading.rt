@@ -4,29 +4,31 @@ ghost use Rattle.std.specs.Prelude.{◌≡◌, ◌≤◌, ◌^◌, unsigned_abs}
 ghost use Rattle.nd_steps.specs.Slots.{stands, SlotIsThere};
 ghost use Rattle.nd_steps.specs.Limits.{after, ReadsAs};
 ghost use Rattle.nd_steps.specs.Turns.{IsReadable};
+ghost use Rattle.nd_steps.specs.Borrowed.{change_of, slot_of};
 
 use crate::amounts::epoch_number;
-use crate::{Change, Slot};
+use crate::change::ChangeRef;
+use crate::slot::KeyRef;
 use nd_processor::Processor;
 use nd_time::limits::MAX_COUNT;
 use std::alloc::Allocator;
 
 // Returns the integer at a key. Looks it up once.
-fn number_at<A: Allocator + Copy>(processor: &Processor<A>, slot: &Slot) -> i128
-    requires { SlotIsThere processor.now slot.now }
-    ensures value { result ≡ stands processor.now slot.now }
+fn number_at<A: Allocator + Copy>(processor: &Processor<A>, key: &KeyRef<'_>) -> i128
+    requires { SlotIsThere processor.now (slot_of key.now) }
+    ensures value { result ≡ stands processor.now (slot_of key.now) }
     ensures small { unsigned_abs result ≤ 2 ^ 64 }
 {
-    match slot {
-        Slot::Records(key) => i128::from(processor.count_of(key)),
-        Slot::Request(point) => i128::from(processor.has_request(point)),
-        Slot::Token(vertex) => epoch_number(processor.token(*vertex)),
-        Slot::State { vertex, key } => {
+    match key {
+        KeyRef::Records(key) => i128::from(processor.count_of(key)),
+        KeyRef::Request(point) => i128::from(processor.has_request(point)),
+        KeyRef::Token(vertex) => epoch_number(processor.token(*vertex)),
+        KeyRef::State { vertex, key } => {
             let number = processor.vertex_state(*vertex).get(&key.time, key.item);
             i128::from(number.unwrap_or(0))
         }
-        Slot::Sink(key) => i128::from(processor.sink_count(key.vertex, key.value)),
-        Slot::Unsent(point) => i128::from(processor.unsent().get(point)),
+        KeyRef::Sink(key) => i128::from(processor.sink_count(key.vertex, key.value)),
+        KeyRef::Unsent(point) => i128::from(processor.unsent().get(point)),
     }
 }
 
@@ -42,23 +44,23 @@ pub(crate) struct Reading {
 }
 
 // Reads a change after which `after` is the integer at its key.
-fn reading_after(slot: &Slot, after: i128) -> Reading
-    ensures { ReadsAs result slot.now after }
+fn reading_after(key: &KeyRef<'_>, after: i128) -> Reading
+    ensures { ReadsAs result (slot_of key.now) after }
 {
     let leaves = after != 0;
     let stays = after.unsigned_abs() <= u128::from(MAX_COUNT);
-    match slot {
-        Slot::Records(_) | Slot::Sink(_) => Reading {
+    match key {
+        KeyRef::Records(_) | KeyRef::Sink(_) => Reading {
             leaves,
             count_stays: stays,
             entry_stays: true,
         },
-        Slot::Unsent(_) => Reading {
+        KeyRef::Unsent(_) => Reading {
             leaves,
             count_stays: true,
             entry_stays: stays,
         },
-        Slot::Request(_) | Slot::Token(_) | Slot::State { .. } => Reading {
+        KeyRef::Request(_) | KeyRef::Token(_) | KeyRef::State { .. } => Reading {
             leaves,
             count_stays: true,
             entry_stays: true,
@@ -69,11 +71,11 @@ fn reading_after(slot: &Slot, after: i128) -> Reading
 // Reads a change in its processor.
 pub(crate) fn reading_of<A: Allocator + Copy>(
     processors: &[Processor<A>],
-    change: &Change,
+    change: &ChangeRef<'_>,
 ) -> Reading
-    requires { IsReadable processors.now change.now }
-    ensures { ReadsAs result change.now.slot (after processors.now change.now) }
+    requires { IsReadable processors.now (change_of change.now) }
+    ensures { ReadsAs result (slot_of change.now.key) (after processors.now (change_of change.now)) }
 {
-    let before = number_at(&processors[change.p as usize], &change.slot);
-    reading_after(&change.slot, before + change.n)
+    let before = number_at(&processors[change.p as usize], &change.key);
+    reading_after(&change.key, before + change.n)
 }

@@ -1,8 +1,12 @@
 //! Records of steps: the changes of each.
-ghost use Rattle.std.specs.Prelude.{◌≡◌, IfOk};
-ghost use Rattle.nd_steps.specs.Records.{keyed, named, AreEqual, AreExchanged, MakesWhat, StandFor};
+ghost use Rattle.std.specs.Prelude.{◌≡◌, IfOk, IfSome};
+ghost use Rattle.nd_protocol.specs.State.{ClusterState};
+ghost use Rattle.nd_steps.specs.Keyed.{taken_in};
+ghost use Rattle.nd_steps.specs.Records.{keyed, named, AreEqual, AreExchanged, Makes, MakesWhat, RunsTo, StandFor};
 
+use crate::flow::TakeChanges;
 use crate::keyed::Keyed;
+use crate::listing::Listing;
 use crate::{Change, FedAt, Flow};
 use nd_delta::Delta;
 use nd_protocol::Step;
@@ -55,7 +59,7 @@ pub(crate) fn copied<A: Allocator + Copy>(
     let count = changes.len();
     let mut list = Vec::with_capacity(alloc, count)?;
     for i in 0..count {
-        list.push(changes.at(i).copy())?;
+        list.push(changes.at(i).borrowed().owned())?;
     }
     Ok(list)
 }
@@ -104,6 +108,17 @@ impl<A: Allocator + Copy> Record<A> {
             Changes::Flowed(flow) => flow.keyed(&self.step),
             Changes::Fed(at) => at.keyed(&self.step),
             Changes::Sent { .. } | Changes::Received { .. } => Keyed::listed(&[]),
+        }
+    }
+
+    // Returns the changes of a take, if a flow stands for them.
+    pub(crate) fn taken(&self) -> Option<TakeChanges>
+        ensures { IfSome result (λ t. (u v : ClusterState)
+            → Makes u self.now v → RunsTo u (taken_in t) v) }
+    {
+        match &self.changes {
+            Changes::Flowed(flow) => flow.taken(&self.step),
+            _ => None,
         }
     }
 

@@ -1,6 +1,7 @@
 //! The keys of a processor's maps.
 ghost use Rattle.std.specs.Prelude.{◌≡◌, IsTrue};
 ghost use Rattle.nd_protocol.specs.Steps.{record_key};
+ghost use Rattle.nd_steps.specs.Borrowed.{slot_of};
 
 use nd_paths::Pointstamp;
 use nd_processor::{SinkKey, ValueAt};
@@ -25,6 +26,17 @@ pub enum Slot {
     Unsent(Pointstamp),
 }
 
+// A key that is not copied.
+#[derive(Clone, Copy, Drop)]
+pub(crate) enum KeyRef<'a> {
+    Records(&'a ValueAt),
+    Request(&'a Pointstamp),
+    Token(usize),
+    State { vertex: usize, key: &'a ItemKey },
+    Sink(SinkKey),
+    Unsent(&'a Pointstamp),
+}
+
 /// Returns the key of the records of `value` at `time` on the edge at a location.
 pub fn record_at(edge: usize, time: &Timestamp, value: i64) -> ValueAt
     ensures { result ≡ record_key edge time.now value }
@@ -37,24 +49,20 @@ pub fn record_at(edge: usize, time: &Timestamp, value: i64) -> ValueAt
 }
 
 impl Slot {
-    // Returns whether the two keys are equal.
-    pub(crate) fn same(&self, other: &Slot) -> bool
-        ensures { IsTrue result → self.now ≡ other.now }
+    // Returns the key without a copy of it.
+    pub(crate) fn key(&self) -> KeyRef<'_>
+        ensures { slot_of result ≡ self.now }
     {
-        match (self, other) {
-            (Slot::Records(key), Slot::Records(other)) => *key == *other,
-            (Slot::Request(point), Slot::Request(other)) => *point == *other,
-            (Slot::Token(vertex), Slot::Token(other)) => *vertex == *other,
-            (
-                Slot::State { vertex, key },
-                Slot::State {
-                    vertex: of,
-                    key: other,
-                },
-            ) => *vertex == *of && *key == *other,
-            (Slot::Sink(key), Slot::Sink(other)) => *key == *other,
-            (Slot::Unsent(point), Slot::Unsent(other)) => *point == *other,
-            _ => false,
+        match self {
+            Slot::Records(key) => KeyRef::Records(key),
+            Slot::Request(point) => KeyRef::Request(point),
+            Slot::Token(vertex) => KeyRef::Token(*vertex),
+            Slot::State { vertex, key } => KeyRef::State {
+                vertex: *vertex,
+                key,
+            },
+            Slot::Sink(key) => KeyRef::Sink(*key),
+            Slot::Unsent(point) => KeyRef::Unsent(point),
         }
     }
 
@@ -62,16 +70,46 @@ impl Slot {
     pub fn copy(&self) -> Slot
         ensures { result ≡ self.now }
     {
+        self.key().owned()
+    }
+}
+
+impl<'a> KeyRef<'a> {
+    // Returns a copy of the key.
+    pub(crate) fn owned(&self) -> Slot
+        ensures { result ≡ slot_of self.now }
+    {
         match self {
-            Slot::Records(key) => Slot::Records(key.copy()),
-            Slot::Request(point) => Slot::Request(point.copy()),
-            Slot::Token(vertex) => Slot::Token(*vertex),
-            Slot::State { vertex, key } => Slot::State {
+            KeyRef::Records(key) => Slot::Records(key.copy()),
+            KeyRef::Request(point) => Slot::Request(point.copy()),
+            KeyRef::Token(vertex) => Slot::Token(*vertex),
+            KeyRef::State { vertex, key } => Slot::State {
                 vertex: *vertex,
                 key: key.copy(),
             },
-            Slot::Sink(key) => Slot::Sink(*key),
-            Slot::Unsent(point) => Slot::Unsent(point.copy()),
+            KeyRef::Sink(key) => Slot::Sink(*key),
+            KeyRef::Unsent(point) => Slot::Unsent(point.copy()),
+        }
+    }
+
+    // Returns whether the two keys are equal.
+    pub(crate) fn same(&self, other: &KeyRef<'_>) -> bool
+        ensures { IsTrue result → slot_of self.now ≡ slot_of other.now }
+    {
+        match (self, other) {
+            (KeyRef::Records(key), KeyRef::Records(other)) => **key == **other,
+            (KeyRef::Request(point), KeyRef::Request(other)) => **point == **other,
+            (KeyRef::Token(vertex), KeyRef::Token(other)) => *vertex == *other,
+            (
+                KeyRef::State { vertex, key },
+                KeyRef::State {
+                    vertex: of,
+                    key: other,
+                },
+            ) => *vertex == *of && **key == **other,
+            (KeyRef::Sink(key), KeyRef::Sink(other)) => *key == *other,
+            (KeyRef::Unsent(point), KeyRef::Unsent(other)) => **point == **other,
+            _ => false,
         }
     }
 }

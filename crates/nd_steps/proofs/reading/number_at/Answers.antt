@@ -2,6 +2,7 @@ use Rattle.std.proofs.Common.{◌≡◌, ◌≤◌, ◌<◌, ◌^◌, ℕ, ℤ, 
 use Rattle.std.specs.Int.{w128}
 use Rattle.std.proofs.lemmas.Int.{to_z-of_z, fits_signed_from_abs}
 use Rattle.nd_steps.specs.Slots.{stands}
+use Rattle.nd_steps.specs.Borrowed.{slot_of}
 use Rattle.nd_steps.proofs.reading.number_at.Goals as goal
 
 counted : (n : ℕ) → n < 18446744073709551616 → unsigned_abs (pos n) ≤ 2 ^ 64
@@ -16,7 +17,7 @@ small x y e h = subst (λ z. unsigned_abs z ≤ 2 ^ 64) (sym (read x y e h)) h
 pub returns-in-Records-clause-value : goal.returns-in-Records-clause-value
 returns-in-Records-clause-value g c =
     read c.from.result (pos c.count_of.result) c.from.ensures (counted c.count_of.result c.count_of.type_inv)
-    ∙ ap pos c.count_of.ensures.value ∙ sym (ap (stands c.args.processor.now) c.in-Records.is)
+    ∙ ap pos c.count_of.ensures.value ∙ sym (ap (λ k. stands c.args.processor.now (slot_of k)) c.in-Records.is)
 
 pub returns-in-Records-clause-small : goal.returns-in-Records-clause-small
 returns-in-Records-clause-small g c = small c.from.result (pos c.count_of.result) c.from.ensures (counted c.count_of.result c.count_of.type_inv)

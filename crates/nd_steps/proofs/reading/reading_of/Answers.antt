@@ -6,6 +6,7 @@ use Rattle.nd_processor.specs.State.{ProcessorState, idle}
 use Rattle.nd_steps.specs.Slots.{stands}
 use Rattle.nd_steps.specs.Limits.{after, ReadsAs}
 use Rattle.nd_steps.specs.Turns.{IsReadable}
+use Rattle.nd_steps.specs.Borrowed.{change_of, slot_of}
 use Rattle.nd_steps.specs.declared.change.Change.{Change}
 use Rattle.nd_steps.proofs.reading.reading_of.Goals as goal
 
@@ -33,11 +34,11 @@ module _ (ps : List ProcessorState) (c : Change) (h : IsReadable ps c) (q : Proc
 
 pub overflow_add-before : goal.overflow_add-before
 unfolding stored
-overflow_add-before g c = sum_fits c.args.processors.now c.args.change.now c.requires c.index-processors-change.result c.index-processors-change.is c.number_at-before.result c.number_at-before.ensures.value c.number_at-before.ensures.small
+overflow_add-before g c = sum_fits c.args.processors.now (change_of c.args.change.now) c.requires c.index-processors-change.result c.index-processors-change.is c.number_at-before.result c.number_at-before.ensures.value c.number_at-before.ensures.small
 
 pub returns : goal.returns
 unfolding stored
 returns g c =
-    subst (ReadsAs c.reading_after.result c.args.change.now.slot)
-    (read_after c.args.processors.now c.args.change.now c.requires c.index-processors-change.result c.index-processors-change.is c.number_at-before.result c.number_at-before.ensures.value c.number_at-before.ensures.small)
+    subst (ReadsAs c.reading_after.result (slot_of c.args.change.now.key))
+    (read_after c.args.processors.now (change_of c.args.change.now) c.requires c.index-processors-change.result c.index-processors-change.is c.number_at-before.result c.number_at-before.ensures.value c.number_at-before.ensures.small)
     c.reading_after.ensures

@@ -1,6 +1,6 @@
 use Rattle.std.proofs.Common.{◌<◌, ◌≤◌, List, [], ◌∷◌, ◌++◌, length, sym, ◌∙◌, arith}
 use Rattle.std.proofs.lemmas.List.{take_all, take_more}
-use Rattle.std.specs.Cow.{cow_value}
+use Rattle.nd_steps.specs.Borrowed.{change_at}
 use Rattle.nd_steps.specs.declared.change.Change.{Change}
 use Rattle.nd_steps.proofs.record.copied.Goals as goal
 
@@ -9,8 +9,8 @@ loop-i-preserved g c =
     let cs : List Change = c.args.changes.now in
     let lt : c.loop-i.i < length cs = omega (arith, c.loop-i-test.true, c.len-count.ensures) in
     c.in_ok-push.ensures.items
-    ∙ (λ i. c.loop-i.invariant i ++ (c.copy.ensures ∙ c.deref.ensures ∙ c.at.ensures) i ∷ [])
-    ∙ sym (take_more cs c.loop-i.i (cow_value c.at.result) lt)
+    ∙ (λ i. c.loop-i.invariant i ++ (c.owned.ensures ∙ c.borrowed.ensures ∙ c.at.ensures) i ∷ [])
+    ∙ sym (take_more cs c.loop-i.i (change_at c.at.result) lt)
 
 pub returns : goal.returns
 returns g c =

@@ -6,6 +6,7 @@ use Rattle.nd_processor.specs.State.{ProcessorState}
 use Rattle.nd_protocol.specs.State.{ClusterState, processor}
 use Rattle.nd_steps.specs.Changes.{at_key, FitsIn}
 use Rattle.nd_steps.specs.Slots.{stands}
+use Rattle.nd_steps.specs.Borrowed.{slot_of}
 use Rattle.nd_steps.proofs.SentLemmas.{processor_seen, made_seen, unmade_seen}
 use Rattle.nd_steps.proofs.run.add.Goals as goal
 
@@ -23,7 +24,7 @@ index_mut-processor-requires g c =
 pub make_in-requires : goal.make_in-requires
 make_in-requires g c =
     let a = c.parts.inside in
-    let d = at_key c.args.p c.args.slot.now c.args.n in
+    let d = at_key c.args.p (slot_of c.args.key.now) c.args.n in
     let lt : d.p < length a.processors.items = subst (λ (t : ClusterState). d.p < length t.processors) (sym c.parts.view_is) c.requires.owner in
     let is = processor_seen c.args.parts.now a.paths a.processors.items a.views.items a.mesh c.parts.view_is d.p c.index_mut-processor.result.now lt c.index_mut-processor.ensures.value in
     subst (λ (q : ProcessorState). FitsIn q d.slot (to_z w128 (of_z w128 d.n))) (sym is) (subst (FitsIn (processor c.args.parts.now d.p) d.slot) (sym (kept d.n (search rules))) c.requires.inside)
@@ -31,7 +32,7 @@ make_in-requires g c =
 pub returns-clause-ok : goal.returns-clause-ok
 returns-clause-ok g c =
     let a = c.parts.inside in
-    let d = at_key c.args.p c.args.slot.now c.args.n in
+    let d = at_key c.args.p (slot_of c.args.key.now) c.args.n in
     made_seen c.make_in.result c.args.parts.now a.paths a.processors.items a.views.items a.mesh c.parts.view_is d c.index_mut-processor.result.now c.make_in.new.processor (to_z w128 (of_z w128 d.n)) (kept d.n (search rules)) c.requires.owner
     c.index_mut-processor.ensures.value c.make_in.ensures.ok
 
@@ -45,7 +46,7 @@ pub returns-clause-absent : goal.returns-clause-absent
 returns-clause-absent g c =
     let a = c.parts.inside in
     let t = c.args.parts.now in
-    let d = at_key c.args.p c.args.slot.now c.args.n in
+    let d = at_key c.args.p (slot_of c.args.key.now) c.args.n in
     let q = c.index_mut-processor.result.now in
     let lt : d.p < length a.processors.items = subst (λ (t : ClusterState). d.p < length t.processors) (sym c.parts.view_is) c.requires.owner in
     let is : q ≡ processor t d.p = processor_seen t a.paths a.processors.items a.views.items a.mesh c.parts.view_is d.p q lt c.index_mut-processor.ensures.value in

@@ -8,14 +8,14 @@ use Rattle.nd_steps.proofs.run.undo_all.Given as goal
 -- the state after the changes that are left, from any initial state
 abbrev pub invariant-loop-i : goal.invariant-loop-i
 invariant-loop-i g l = record {
-  within : l.i ≤ length l.changes;
-  now : (s : ClusterState) → IsState s → RunsTo s l.changes l.fn.parts → l.parts ≡ state_at s l.changes l.i;
+  within : l.i ≤ length (g.C.Listing.listed l.changes);
+  now : (s : ClusterState) → IsState s → RunsTo s (g.C.Listing.listed l.changes) l.fn.parts → l.parts ≡ state_at s (g.C.Listing.listed l.changes) l.i;
 }
 
 -- the same, forward to the last
 abbrev pub invariant-loop-j : goal.invariant-loop-j
 invariant-loop-j g l = record {
-  within : l.j ≤ length l.changes;
+  within : l.j ≤ length (g.C.Listing.listed l.changes);
   past : l.i < l.j;
-  now : (s : ClusterState) → IsState s → RunsTo s l.changes l.fn.parts → l.parts ≡ state_at s l.changes l.j;
+  now : (s : ClusterState) → IsState s → RunsTo s (g.C.Listing.listed l.changes) l.fn.parts → l.parts ≡ state_at s (g.C.Listing.listed l.changes) l.j;
 }

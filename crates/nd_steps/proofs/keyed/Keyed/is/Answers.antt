@@ -1,6 +1,6 @@
 use Rattle.std.proofs.Common.{◌≡◌, ◌<◌, ◌≤◌, List, [], ◌∷◌, ◌++◌, length, sym, ◌∙◌, arith}
 use Rattle.std.proofs.lemmas.List.{take_all, take_more}
-use Rattle.std.specs.Cow.{cow_value}
+use Rattle.nd_steps.specs.Borrowed.{change_at}
 use Rattle.nd_steps.specs.declared.change.Change.{Change}
 use Rattle.nd_steps.proofs.keyed.Keyed.is.Goals as goal
 
@@ -11,8 +11,8 @@ loop-i-preserved c =
     let i = c.loop-i.i in
     let lt : i < length cs = omega (arith, c.loop-i-test.true) in
     let lt' : i < length told = omega (arith, lt, c.len.ensures, c.if-len-changes.false) in
-    let here : cow_value c.at.result ≡ c.index-changes-i.result = sym c.deref.ensures ∙ c.same.ensures c.if-not-same.false in
-    take_more told i (cow_value c.at.result) lt'
+    let here : change_at c.at.result ≡ c.index-changes-i.result = sym c.borrowed.ensures ∙ c.same.ensures c.if-not-same.false ∙ c.borrowed-in-loop-i.ensures in
+    take_more told i (change_at c.at.result) lt'
     ∙ (λ j. c.loop-i.invariant j ++ (sym c.at.ensures ∙ here ∙ c.index-changes-i.is) j ∷ [])
     ∙ sym (take_more cs i c.index-changes-i.result lt)
 
