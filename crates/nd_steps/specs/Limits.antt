@@ -34,3 +34,7 @@ pub record ReadsAs (r : Reading) (l : Slot) (z : ℤ) : Type 0 where
   pub leaves : IsTrue r.leaves ↔ (z ≢ pos 0)
   pub count : IsTrue r.count_stays ↔ CountWithin l z
   pub entry : IsTrue r.entry_stays ↔ EntryWithin l z
+
+-- r says what holds at the key of the change c once it is applied to ps
+abbrev pub ReadsChange : List ProcessorState → Change → Reading → Type 0
+ReadsChange ps c r = ReadsAs r c.slot (after ps c)

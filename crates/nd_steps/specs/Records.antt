@@ -101,6 +101,10 @@ MakesWhat r q = (s t : ClusterState) → Makes s r t → Makes s q t
 
 -- ---- back to the state before a step
 
+-- the changes cs lead from s to t
+abbrev pub StartsRun : List Change → ClusterState → ClusterState → Type 0
+StartsRun cs t s = RunsTo s cs t
+
 -- some state that a cluster may be in satisfies P
 abbrev pub CameFrom : (ClusterState → Type 0) → Type 0
 CameFrom P = (s : ClusterState) × IsState s × P s

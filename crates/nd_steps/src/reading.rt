@@ -2,7 +2,7 @@
 //! 0 afterwards, and whether it is within its limit (this project's own rule).
 ghost use Rattle.std.specs.Prelude.{◌≡◌, ◌≤◌, ◌^◌, unsigned_abs};
 ghost use Rattle.nd_steps.specs.Slots.{stands, SlotIsThere};
-ghost use Rattle.nd_steps.specs.Limits.{after, ReadsAs};
+ghost use Rattle.nd_steps.specs.Limits.{ReadsAs, ReadsChange};
 ghost use Rattle.nd_steps.specs.Turns.{IsReadable};
 ghost use Rattle.nd_steps.specs.Borrowed.{change_of, slot_of};
 
@@ -74,7 +74,7 @@ pub(crate) fn reading_of<A: Allocator + Copy>(
     change: &ChangeRef<'_>,
 ) -> Reading
     requires { IsReadable processors.now (change_of change.now) }
-    ensures { ReadsAs result (slot_of change.now.key) (after processors.now (change_of change.now)) }
+    ensures { ReadsChange processors.now (change_of change.now) result }
 {
     let before = number_at(&processors[change.p as usize], &change.key);
     reading_after(&change.key, before + change.n)

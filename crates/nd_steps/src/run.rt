@@ -2,7 +2,7 @@
 ghost use Rattle.std.specs.Prelude.{◌≡◌, OnOk, OnErr};
 ghost use Rattle.nd_steps.specs.Changes.{at_key, inverse, made, applied, Fits, FindsNothing, IsRunnable};
 ghost use Rattle.nd_steps.specs.Borrowed.{change_of, slot_of};
-ghost use Rattle.nd_steps.specs.Records.{RunsTo, CameFrom, IsBackAt};
+ghost use Rattle.nd_steps.specs.Records.{StartsRun, CameFrom, IsBackAt};
 
 use crate::amounts::make_in;
 use crate::change::ChangeRef;
@@ -78,8 +78,8 @@ pub(crate) fn undo_all<A: Allocator + Copy, C: Listing>(
     parts: &mut Parts<A>,
     changes: &C,
 ) -> Result<(), AllocError>
-    requires { CameFrom (λ s. RunsTo s (C.listed changes.now) parts.old) }
-    ensures ok { OnOk result (IsBackAt (λ s. RunsTo s (C.listed changes.now) parts.old) parts.new) }
+    requires { CameFrom (StartsRun (C.listed changes.now) parts.old) }
+    ensures ok { OnOk result (IsBackAt (StartsRun (C.listed changes.now) parts.old) parts.new) }
     ensures err { OnErr result (parts.new ≡ parts.old) }
 {
     let count = changes.len();

@@ -1,5 +1,5 @@
 use Rattle.std.proofs.Common.{◌∙◌, ◌+◌, ◌≤◌, length, ap, arith}
-use Rattle.std.proofs.lemmas.Bool.{ne_eqb}
+use Rattle.std.proofs.lemmas.Bool.{eq-eqb, ne_eqb}
 use Rattle.std.proofs.lemmas.List.{length-take}
 use Rattle.std.proofs.lemmas.Result.{err_from_is_err_and}
 use Rattle.rewind_clients.proofs.ReadersLemmas.{fails-long, fails-piece, fails-read, going-on, read-whole}
@@ -18,6 +18,9 @@ returns-in_err-end_line-clause-err g c =
 pub returns-then-n-eq0-clause-whole : goal.returns-then-n-eq0-clause-whole
 returns-then-n-eq0-clause-whole g c = λ input told.
     read-whole _ _ _ input _ _ c.reads.reader _ _ _ (c.reads.invariant.going input told) c.in_ok-n.ensures.bytes c.if-n-eq0.true (c.in_ok-n.ensures.end c.if-n-eq0.true) (λ p done s. c.in_ok-end_line.ensures.ok p done s)
+
+pub returns-then-n-eq0-clause-ended : goal.returns-then-n-eq0-clause-ended
+returns-then-n-eq0-clause-ended g c = c.in_ok-n.ensures.ended ∙ eq-eqb c.in_ok-n.n 0 c.if-n-eq0.true
 
 pub returns-then-n-left-clause-err : goal.returns-then-n-left-clause-err
 returns-then-n-left-clause-err g c =
