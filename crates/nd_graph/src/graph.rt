@@ -93,7 +93,8 @@ impl<A: Allocator> Model for Graph<A> {
 
     ghost view = { λ a. graph_of a.vertices.items a.edges.items };
 
-    ghost invariant = { λ a. IsGraph (graph_of a.vertices.items a.edges.items) a.depths.items a.arcs.items
+    ghost invariant = { λ a.
+        IsGraph (graph_of a.vertices.items a.edges.items) a.depths.items a.arcs.items
         × IsFaultless (graph_of a.vertices.items a.edges.items) };
 }
 

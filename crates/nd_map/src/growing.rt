@@ -160,7 +160,8 @@ impl<K: Key, V: Copy, A: Allocator> GrowingMap<K, V, A> {
     /// Finding the first entry takes time logarithmic in the number of entries.
     pub fn between(&self, first: &K, last: &K) -> Between<'_, K, V>
         requires { IsLeBy K.cmp first.now last.now }
-        ensures rest { result ≡ entries_between K.cmp (Included first.now) (Included last.now) self.now }
+        ensures rest { result
+            ≡ entries_between K.cmp (Included first.now) (Included last.now) self.now }
         ensures runs { ShowsInOrder (deref_pair {K = K} {X = V}) }
         ensures fits { length result < 2 ^ 63 }
         ensures listed { IsListed K.cmp self.now }

@@ -78,7 +78,8 @@ fn place<K: Key, V>(entries: &[(K, V)], key: &K) -> Result<usize, usize>
 // Returns the entries from `key` to the end.
 fn from<'a, K: Key, V>(entries: &'a [(K, V)], key: &K) -> &'a [(K, V)]
     requires { IsListed K.cmp entries.now }
-    ensures value { result.now ≡ filter (λ e. is_from_start K.cmp (Included key.now) e.0) entries.now }
+    ensures value { result.now
+        ≡ filter (λ e. is_from_start K.cmp (Included key.now) e.0) entries.now }
     ensures within { length result.now ≤ length entries.now }
     ensures listed { IsListed K.cmp result.now }
 {
@@ -91,7 +92,8 @@ fn from<'a, K: Key, V>(entries: &'a [(K, V)], key: &K) -> &'a [(K, V)]
 // Returns the entries up to `key`, included.
 fn up_to<'a, K: Key, V>(entries: &'a [(K, V)], key: &K) -> &'a [(K, V)]
     requires { IsListed K.cmp entries.now }
-    ensures value { result.now ≡ filter (λ e. not (is_past_end K.cmp (Included key.now) e.0)) entries.now }
+    ensures value { result.now
+        ≡ filter (λ e. not (is_past_end K.cmp (Included key.now) e.0)) entries.now }
     ensures within { length result.now ≤ length entries.now }
 {
     match place(entries, key) {
@@ -168,7 +170,8 @@ impl<K: Key, V: Copy, A: Allocator> SortedMap<K, V, A> {
     /// Replaces the value of the entry at `index`, in the order of the keys. It does not allocate.
     pub fn put_at(&mut self, index: usize, value: V)
         requires { index < length self.old }
-        ensures value { (d : K × V) → self.new ≡ put K.cmp (get_or self.old index d).0 value self.old }
+        ensures value { (d : K × V)
+            → self.new ≡ put K.cmp (get_or self.old index d).0 value self.old }
         ensures keys { keys_of self.new ≡ keys_of self.old }
         ensures listed { IsListed K.cmp self.new }
         ensures was_listed { IsListed K.cmp self.old }
@@ -210,7 +213,8 @@ impl<K: Key, V: Copy, A: Allocator> SortedMap<K, V, A> {
     // Returns the entries from the key `first` to the key `last`, both included.
     pub(crate) fn between(&self, first: &K, last: &K) -> &[(K, V)]
         requires { IsLeBy K.cmp first.now last.now }
-        ensures value { result.now ≡ entries_between K.cmp (Included first.now) (Included last.now) self.now }
+        ensures value { result.now
+            ≡ entries_between K.cmp (Included first.now) (Included last.now) self.now }
         ensures fits { length result.now < 2 ^ 63 }
         ensures listed { IsListed K.cmp self.now }
     {

@@ -77,7 +77,8 @@ impl<K: Key, V: Copy, A: Allocator> TreeMap<K, V, A> {
     // Finding the first entry takes time logarithmic in the number of entries.
     pub(crate) fn between(&self, first: &K, last: &K) -> Range<'_, K, V>
         requires { IsLeBy K.cmp first.now last.now }
-        ensures rest { result ≡ entries_between K.cmp (Included first.now) (Included last.now) self.now }
+        ensures rest { result
+            ≡ entries_between K.cmp (Included first.now) (Included last.now) self.now }
         ensures runs { ShowsInOrder (deref_pair {K = K} {X = V}) }
         ensures fits { length result < 2 ^ 63 }
         ensures listed { IsListed K.cmp self.now }

@@ -202,7 +202,8 @@ impl<A: Allocator + Copy> Mesh<A> {
         ensures undone { OnOk result (popped self.new from to ≡ self.old) }
         ensures err { OnErr result (self.new ≡ self.old) }
         ensures back { IfErr result (λ e. e.change ≡ change) }
-        ensures full { IsErrAnd result (λ e. e.fault ≡ PushFault.QueueFull) ↔ IsFull (queue self.old from to) }
+        ensures full { IsErrAnd result (λ e. e.fault ≡ PushFault.QueueFull)
+            ↔ IsFull (queue self.old from to) }
         ensures mesh { IsMesh self.new }
     {
         if self.rows[from].queue_len(to) >= MAX_QUEUE {

@@ -95,7 +95,8 @@ impl<A: Allocator + Copy> Outbox<A> {
     // Appends a copy of `change` to one queue.
     fn append(&mut self, alloc: A, to: usize, change: &Delta<A>) -> Result<(), AllocError>
         requires { to < length self.old }
-        ensures ok { OnOk result (self.new ≡ slice_set self.old to (appended change.now (slice_index_or self.old to []))) }
+        ensures ok { OnOk result (self.new
+            ≡ slice_set self.old to (appended change.now (slice_index_or self.old to []))) }
         ensures err { OnErr result (self.new ≡ self.old) }
     {
         let copied = change.copy(alloc)?;
@@ -105,7 +106,8 @@ impl<A: Allocator + Copy> Outbox<A> {
     // Removes the newest change from one queue.
     fn drop_newest(&mut self, to: usize)
         requires { to < length self.old }
-        ensures { self.new ≡ slice_set self.old to (without_newest (slice_index_or self.old to [])) }
+        ensures { self.new
+            ≡ slice_set self.old to (without_newest (slice_index_or self.old to [])) }
     {
         self.queues[to].drop_newest();
     }
@@ -145,7 +147,8 @@ impl<A: Allocator + Copy> Outbox<A> {
     pub fn pop(&mut self, to: usize) -> Option<Delta<A>>
         requires { to < length self.old }
         ensures value { result ≡ slice_get (slice_index_or self.old to []) 0 }
-        ensures rest { self.new ≡ slice_set self.old to (without_oldest (slice_index_or self.old to [])) }
+        ensures rest { self.new
+            ≡ slice_set self.old to (without_oldest (slice_index_or self.old to [])) }
     {
         self.queues[to].take_oldest()
     }
@@ -153,7 +156,8 @@ impl<A: Allocator + Copy> Outbox<A> {
     /// Inserts a change at the front of one queue. If memory runs out, returns the change.
     pub fn unpop(&mut self, to: usize, change: Delta<A>) -> Result<(), Delta<A>>
         requires { to < length self.old }
-        ensures ok { OnOk result (self.new ≡ slice_set self.old to (change ∷ slice_index_or self.old to [])) }
+        ensures ok { OnOk result
+            (self.new ≡ slice_set self.old to (change ∷ slice_index_or self.old to [])) }
         ensures err { OnErr result (self.new ≡ self.old) }
         ensures back { IfErr result (λ c. c ≡ change) }
     {

@@ -58,7 +58,8 @@ impl Summary {
     /// Returns `None` if the summary keeps more counters than the time has, or if the result would have a
     /// number above `u32::MAX` or more than `MAX_DEPTH` counters.
     pub fn apply(&self, time: &Timestamp) -> Option<Timestamp>
-        ensures some { IsSome result ↔ (self.now.keep ≤ length time.now.counters) × (left_by self.now ≤ max_depth)
+        ensures some { IsSome result ↔ (self.now.keep ≤ length time.now.counters)
+            × (left_by self.now ≤ max_depth)
             × All (λ x. x ≤ max_counter) (applied self.now time.now.counters) }
         ensures value { IfSome result (λ t. t
             ≡ record { epoch = time.now.epoch; counters = applied self.now time.now.counters }) }

@@ -47,6 +47,20 @@ pub record AreFound {A : Type 0} (s : ClusterState) (ways : List (List (Step A))
   pub each : (k : ℕ) (w : List (Step A)) (node : Node A) → slice_get ways k ≡ Some w → slice_get nodes k ≡ Some node → IsNode s ways k w node
   pub alike : (k : ℕ) (w : List (Step A)) → slice_get ways k ≡ Some w → IsAlike s (after s w)
 
+-- a search from s has found these nodes
+abbrev pub WereFound : {A : Type 0} → ClusterState → List (Node A) → Type 0
+WereFound {A} s nodes = (ways : List (List (Step A))) × (forms : List (List ℕ)) × AreFound s ways forms nodes
+
+-- t is the state of the node at the place k, whichever ways from s the nodes are for
+abbrev pub IsStateAt : {A : Type 0} → ClusterState → List (Node A) → ℕ → ClusterState → Type 0
+IsStateAt {A} s nodes k t =
+    (ways : List (List (Step A))) (forms : List (List ℕ)) (w : List (Step A)) → AreFound s ways forms nodes → slice_get ways k ≡ Some w → t ≡ after s w
+
+-- v is the way of the node at the place k, whichever ways the nodes are for
+abbrev pub IsWayAt : {A : Type 0} → List (Node A) → ℕ → List (Step A) → Type 0
+IsWayAt {A} nodes k v =
+    (s : ClusterState) (ways : List (List (Step A))) (forms : List (List ℕ)) (w : List (Step A)) → AreFound s ways forms nodes → slice_get ways k ≡ Some w → v ≡ w
+
 -- ---- walks
 
 -- t is the state to which the way at the place k leads

@@ -45,7 +45,8 @@ impl<A: Allocator + Copy> Found<A> {
 
     // Returns whether the walker's state was found before, and keeps its form.
     pub(crate) fn has(&mut self, walker: &Cluster<A>) -> Result<bool, AllocError>
-        ensures found { IfOk result (λ b. IsTrue b ↔ Contains self.old.forms.keys (form_of walker.now)) }
+        ensures found { IfOk result (λ b.
+            IsTrue b ↔ Contains self.old.forms.keys (form_of walker.now)) }
         ensures state { IsState walker.now }
         ensures met { OnOk result (self.new.met ≡ form_of walker.now) }
         ensures forms { self.new.forms ≡ self.old.forms }
@@ -58,7 +59,8 @@ impl<A: Allocator + Copy> Found<A> {
     // Adds the state that was looked at last.
     pub(crate) fn add(&mut self, alloc: A, node: Node<A>) -> Result<(), AllocError>
         requires { Contains self.old.forms.keys self.old.met → ⊥ }
-        ensures forms { OnOk result (self.new.forms.keys ≡ self.old.forms.keys ++ self.old.met ∷ []) }
+        ensures forms { OnOk result
+            (self.new.forms.keys ≡ self.old.forms.keys ++ self.old.met ∷ []) }
         ensures nodes { OnOk result (self.new.nodes.items ≡ self.old.nodes.items ++ node ∷ []) }
     {
         self.nodes.push(node)?;

@@ -1,9 +1,6 @@
 //! Clusters at states that a search has found, and the ways there.
-ghost use Rattle.std.specs.Prelude.{◌≡◌, ◌<◌, IfErr, IfOk, IsTrue, length, ℕ, List, Some, slice_get};
-ghost use Rattle.nd_protocol.specs.State.{ClusterState};
-ghost use Rattle.nd_protocol.specs.Steps.{after};
-ghost use Rattle.nd_protocol.specs.declared.step.Step.{Step};
-ghost use Rattle.nd_reach.specs.Found.{AreFound, IsSomewhere, Walks};
+ghost use Rattle.std.specs.Prelude.{◌≡◌, ◌<◌, IfErr, IfOk, IsTrue, length};
+ghost use Rattle.nd_reach.specs.Found.{IsSomewhere, IsStateAt, Walks, WereFound};
 ghost use Rattle.nd_reach.specs.declared.fault.ReachFault.TheVariants.{Memory};
 
 use crate::node::Node;
@@ -19,10 +16,9 @@ pub(crate) fn walker_at<A: Allocator + Copy>(
     k: usize,
 ) -> Result<Cluster<A>, ReachFault>
     requires within { k < length nodes.now }
-    requires found { (ways : List (List (Step A))) × (forms : List (List ℕ)) × AreFound start.now ways forms nodes.now }
+    requires found { WereFound start.now nodes.now }
     ensures err { IfErr result (λ e. e ≡ Memory) }
-    ensures ok { IfOk result (λ c. (ways : List (List (Step A))) (forms : List (List ℕ)) (w : List (Step A))
-        → AreFound start.now ways forms nodes.now → slice_get ways k ≡ Some w → c ≡ after start.now w) }
+    ensures ok { IfOk result (IsStateAt start.now nodes.now k) }
 {
     let node = &nodes[k];
     if let Some(saved) = &node.saved {

@@ -72,9 +72,11 @@ impl<'a, A: Allocator + Copy> Question<'a, A> {
         ensures err { IfErr result (λ e. e ≡ Memory) }
         ensures stays { IfOk result (λ end. Stays end walker.old walker.new) }
         ensures tried { IfOk result (λ end. (moves : List (Step A)) (n : ℕ)
-            → GoesOn (wanted self.now) found.old.forms.keys found.old.nodes.items at walker.old moves n
+            → GoesOn (wanted self.now)
+            found.old.forms.keys found.old.nodes.items at walker.old moves n
             → slice_get moves n ≡ Some made.step
-            → HasTried (wanted self.now) found.new.forms.keys found.new.nodes.items at walker.new moves n end) }
+            → HasTried (wanted self.now)
+            found.new.forms.keys found.new.nodes.items at walker.new moves n end) }
     {
         forms_determine_states();
         walker.commit(&made)?;
@@ -148,7 +150,8 @@ impl<'a, A: Allocator + Copy> Question<'a, A> {
         requires nodes { found.old.nodes.items ≡ [] }
         requires limit { 0 < self.now.limit }
         ensures err { IfErr result (λ e. e ≡ Memory) }
-        ensures ok { IfOk result (λ b. HasBegun (wanted self.now) found.new.forms.keys found.new.nodes.items b) }
+        ensures ok { IfOk result (HasBegun (wanted self.now)
+            found.new.forms.keys found.new.nodes.items) }
     {
         let _is_new = found.has(self.start)?;
         found.add(self.alloc, Node::start())?;
@@ -161,7 +164,8 @@ impl<'a, A: Allocator + Copy> Question<'a, A> {
         requires nodes { found.old.nodes.items ≡ [] }
         requires limit { 0 < self.now.limit }
         ensures err { IfErr result (λ e. e ≡ Memory) }
-        ensures ok { IfOk result (λ end. HasRun (wanted self.now) found.new.forms.keys found.new.nodes.items end) }
+        ensures ok { IfOk result (HasRun (wanted self.now)
+            found.new.forms.keys found.new.nodes.items) }
     {
         if self.begin(found)? {
             return Ok(Some(End::Hit));
@@ -183,7 +187,8 @@ impl<'a, A: Allocator + Copy> Question<'a, A> {
         requires run { HasRun (wanted self.now) found.now.forms.keys found.now.nodes.items end }
         requires limit { 0 < self.now.limit }
         ensures err { IfErr result (λ e. e ≡ Memory) }
-        ensures reached { IfOk result (IsReached self.now.allowed self.now.when.now self.now.limit self.now.start.now) }
+        ensures reached { IfOk result (IsReached self.now.allowed self.now.when.now
+            self.now.limit self.now.start.now) }
     {
         let count = found.nodes.len();
         let Some(end) = end else {

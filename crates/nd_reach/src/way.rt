@@ -1,8 +1,7 @@
 //! The way to a state that a search has found.
-ghost use Rattle.std.specs.Prelude.{◌≡◌, ◌<◌, IfOk, length, ℕ, List, Some, slice_get};
+ghost use Rattle.std.specs.Prelude.{◌<◌, IfOk, length};
 ghost use Rattle.nd_protocol.specs.State.{ClusterState};
-ghost use Rattle.nd_protocol.specs.declared.step.Step.{Step};
-ghost use Rattle.nd_reach.specs.Found.{AreFound};
+ghost use Rattle.nd_reach.specs.Found.{IsWayAt, WereFound};
 
 use crate::Steps;
 use crate::node::Node;
@@ -15,9 +14,8 @@ pub(crate) fn way_to<A: Allocator + Copy>(
     k: usize,
 ) -> Result<Steps<A>, AllocError>
     requires within { k < length nodes.now }
-    requires found { (s : ClusterState) × (ways : List (List (Step A))) × (forms : List (List ℕ)) × AreFound s ways forms nodes.now }
-    ensures { IfOk result (λ v. (s : ClusterState) (ways : List (List (Step A))) (forms : List (List ℕ)) (w : List (Step A))
-        → AreFound s ways forms nodes.now → slice_get ways k ≡ Some w → v ≡ w) }
+    requires found { (s : ClusterState) × WereFound s nodes.now }
+    ensures { IfOk result (IsWayAt nodes.now k) }
 {
     let mut steps = Steps::new(alloc);
     let mut at = k;

@@ -36,7 +36,8 @@ impl<A: Allocator + Copy> Model for Timeline<A> {
 
     ghost coded = { timeline_code A };
 
-    ghost view = { λ a. record { base = a.kept.base; kept = steps_of a.kept.steps.items; cursor = a.walk.at } };
+    ghost view = { λ a.
+        record { base = a.kept.base; kept = steps_of a.kept.steps.items; cursor = a.walk.at } };
 
     ghost invariant = { λ a.
         IsKept a.kept.base a.walk.cluster a.kept.steps.items a.kept.checkpoints.items a.walk.at };

@@ -12,8 +12,8 @@ use Rattle.rewind_answers.specs.Answers.{Phase}
 use Rattle.rewind.specs.Script.{Replies, WroteFront}
 use Rattle.rewind_answers.specs.Stages.{phase_of}
 use Rattle.rewind.specs.States.{Answered, EndsEarly, Faulted, Stands, Stopped}
-use Rattle.rewind_lines.specs.declared.fault.DebugFault.{DebugFault}
-use Rattle.rewind_lines.specs.declared.fault.DebugFault.TheVariants as fault
+use Rattle.rewind_clients.specs.declared.fault.DebugFault.{DebugFault}
+use Rattle.rewind_clients.specs.declared.fault.DebugFault.TheVariants as fault
 use Rattle.rewind.specs.declared.run.Run as declared
 
 -- all that waited was written

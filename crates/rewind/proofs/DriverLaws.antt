@@ -7,13 +7,13 @@ use Rattle.rewind_lines.specs.Cuts.{whole_lines-newline}
 use Rattle.rewind_lines.specs.Known.{Known, read-failed, read-none, read-on}
 use Rattle.rewind_lines.specs.Lines.{lines_of, whole_lines_of}
 use Rattle.rewind_answers.specs.Answers.{unopened}
-use Rattle.rewind_lines.specs.Faults.{is_read_fault}
+use Rattle.rewind_clients.specs.Faults.{is_read_fault}
 use Rattle.rewind.specs.Faults.{IsOfRun}
 use Rattle.rewind.specs.Script.{AreRead, Ends, RepliedTo, Run, Takes, ended, last}
 use Rattle.rewind_answers.specs.Stages.{phase_of}
 use Rattle.rewind.specs.States.{Answered, EndsEarly, Faulted, Going}
-use Rattle.rewind_lines.specs.declared.fault.DebugFault.{DebugFault}
-use Rattle.rewind_lines.specs.declared.fault.DebugFault.TheVariants as fault
+use Rattle.rewind_clients.specs.declared.fault.DebugFault.{DebugFault}
+use Rattle.rewind_clients.specs.declared.fault.DebugFault.TheVariants as fault
 use Rattle.rewind.specs.declared.run.Run as declared
 use Rattle.rewind.proofs.StandLaws.{phase_of-goes_on}
 

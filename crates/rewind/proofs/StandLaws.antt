@@ -12,8 +12,8 @@ use Rattle.rewind_answers.specs.Answers.{Phase, unopened, refused, Answers}
 use Rattle.rewind.specs.Script.{Run, Replies}
 use Rattle.rewind_answers.specs.Stages.{phase_of}
 use Rattle.rewind.specs.States.{AddsOne, Gathers, Stands, Stopped, WaitsFew}
-use Rattle.rewind_lines.specs.declared.fault.DebugFault.{DebugFault}
-use Rattle.rewind_lines.specs.declared.fault.DebugFault.TheVariants as fault
+use Rattle.rewind_clients.specs.declared.fault.DebugFault.{DebugFault}
+use Rattle.rewind_clients.specs.declared.fault.DebugFault.TheVariants as fault
 use Rattle.rewind.specs.declared.run.Run as declared
 use Rattle.rewind_answers.specs.declared.stage.Stage.{Stage}
 use Rattle.rewind_answers.specs.declared.stage.Stage.TheVariants.{Unopened, Unstarted, Running}

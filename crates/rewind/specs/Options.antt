@@ -48,11 +48,9 @@ AreRefused kinds = (k : ErrorKind) × IsAmong k kinds × (k ≢ kind.DisplayHelp
 -- help was asked for, and this is it
 abbrev pub IsHelp : WordsFault → Type 0
 IsHelp (Help text) = ⊤
-IsHelp (Refused text) = ⊥
-IsHelp Memory = ⊥
+IsHelp _ = ⊥
 
 -- the words were refused
 abbrev pub IsRefused : WordsFault → Type 0
-IsRefused (Help text) = ⊥
 IsRefused (Refused text) = ⊤
-IsRefused Memory = ⊥
+IsRefused _ = ⊥

@@ -4,8 +4,8 @@ use Rattle.serde_json.specs.Data.{Data}
 use Rattle.rewind_lines.specs.Lines.{reading_of, lines_of, whole_lines_of}
 use Rattle.rewind_lines.specs.Texts.{text_of}
 use Rattle.rewind_answers.specs.Answers.{Answers, Phase, refused, unopened}
-use Rattle.rewind_lines.specs.declared.fault.DebugFault.{DebugFault}
-use Rattle.rewind_lines.specs.declared.fault.DebugFault.TheVariants as fault
+use Rattle.rewind_clients.specs.declared.fault.DebugFault.{DebugFault}
+use Rattle.rewind_clients.specs.declared.fault.DebugFault.TheVariants as fault
 
 -- these may be the replies to these lines, the first of which has this number
 unfoldable pub Run : Phase → ℕ → List (List ℕ) → List Data → Phase → Type 0
@@ -88,8 +88,7 @@ Ends processors limit input left before after (Err fault.Read) = StoppedReading 
 Ends processors limit input left before after (Err fault.TooLong) = PassedLimit processors limit input left before after
 Ends processors limit input left before after (Err fault.Memory) = (s : StoppedAt limit input left) × RepliedTo processors s.lines before after
 Ends processors limit input left before after (Err fault.Write) = (s : StoppedAt limit input left) × WroteFront processors s.lines before after
-Ends processors limit input left before after (Err fault.Script) = ⊥
-Ends processors limit input left before after (Err fault.Close) = ⊥
+Ends processors limit input left before after _ = ⊥
 
 -- How many bytes a run takes from a reader, whether or not the reader says what it has left; one byte past the limit only to see
 -- that the input is longer.

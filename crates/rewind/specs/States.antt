@@ -7,8 +7,8 @@ use Rattle.rewind_lines.specs.Texts.{text_of}
 use Rattle.rewind_answers.specs.Answers.{Answers, Phase, refused}
 use Rattle.rewind.specs.Script.{RefusedAt, RepliedTo, Replies, WroteFront}
 use Rattle.rewind_answers.specs.Stages.{phase_of}
-use Rattle.rewind_lines.specs.declared.fault.DebugFault.{DebugFault}
-use Rattle.rewind_lines.specs.declared.fault.DebugFault.TheVariants as fault
+use Rattle.rewind_clients.specs.declared.fault.DebugFault.{DebugFault}
+use Rattle.rewind_clients.specs.declared.fault.DebugFault.TheVariants as fault
 use Rattle.rewind.specs.declared.run.Run.{Run}
 
 -- the replies to a line were appended to what waited, and `count` is their number
@@ -42,11 +42,7 @@ pub record Stands (processors : ℕ) (done sent : List ℕ) (run : Run) : Type 0
 abbrev pub StopsIn : DebugFault → Phase → Type 0
 StopsIn fault.Graph phase = phase ≡ refused
 StopsIn fault.Memory phase = phase ≢ refused
-StopsIn fault.Script phase = ⊥
-StopsIn fault.Read phase = ⊥
-StopsIn fault.Write phase = ⊥
-StopsIn fault.TooLong phase = ⊥
-StopsIn fault.Close phase = ⊥
+StopsIn _ phase = ⊥
 
 -- a run stopped at one of these lines; the replies are `sent`, followed by those that wait
 pub record Stopped (processors : ℕ) (lines : List (List ℕ)) (sent : List ℕ) (run : Run) (e : DebugFault) : Type 0 where
@@ -77,10 +73,7 @@ unfoldable pub Faulted : ℕ → List (List ℕ) → List ℕ → Option (List �
 Faulted processors lines before after fault.Graph = RefusedAt processors lines before after
 Faulted processors lines before after fault.Memory = RepliedTo processors lines before after
 Faulted processors lines before after fault.Write = WroteFront processors lines before after
-Faulted processors lines before after fault.Script = ⊥
-Faulted processors lines before after fault.Read = ⊥
-Faulted processors lines before after fault.TooLong = ⊥
-Faulted processors lines before after fault.Close = ⊥
+Faulted processors lines before after _ = ⊥
 
 -- the run ended with an error at one of these lines
 unfoldable pub EndsEarly : ℕ → List (List ℕ) → List ℕ → Option (List ℕ) → DebugFault → Type 0

@@ -1,17 +1,15 @@
 //! A script from a source of bytes, its replies to a sink of bytes.
 ghost use Rattle.std.specs.Prelude.{◌≡◌, ◌≢◌, ◌+◌, ◌-◌, ◌<◌, ◌≤◌, ◌^◌, ℕ, List, Some, false, true, IfErr, OnOk};
 ghost use Rattle.nd_time.specs.Limits.{max_input};
-ghost use Rattle.rewind_lines.specs.Faults.{is_read_fault, is_write_fault};
+ghost use Rattle.rewind_clients.specs.Faults.{is_read_fault, is_write_fault};
 ghost use Rattle.rewind.specs.Script.{Ends, Takes};
 
 use crate::run::Run;
-use nd_time::limits::{MAX_INPUT, MAX_LINE};
-use rewind_lines::{DebugFault, Options, Sink, Source, front, read_into};
+use nd_time::limits::MAX_INPUT;
+use rewind_clients::{DebugFault, Options};
+use rewind_lines::{CHUNK, Sink, Source, front, read_into};
 use std::alloc::Global;
 use std::thread::Threads;
-
-/// The most bytes that are read at a time: the longest line that is parsed as JSON, and its newline.
-const CHUNK: usize = MAX_LINE + 1;
 
 /// Runs the script of one client, and returns the number of lines that were replied to.
 ///

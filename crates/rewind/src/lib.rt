@@ -9,6 +9,5 @@ mod run;
 pub use driver::{debug, debug_within};
 pub use nd_history::{Gate, OpenGate};
 pub use options::{WordsFault, options_of};
-pub use rewind_clients::{debug_clients, debug_clients_within};
+pub use rewind_clients::{DebugFault, Options, debug_clients, debug_clients_within};
 pub use rewind_forms::{LineFault, read_step};
-pub use rewind_lines::{DebugFault, Options};

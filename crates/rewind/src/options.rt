@@ -13,7 +13,7 @@ ghost use Rattle.rewind.specs.Options.{given, number_or_one, number_rule, refusa
 
 use clap::error::ErrorKind;
 use clap::{Arg, ArgAction, Command, value_parser};
-use rewind_lines::Options;
+use rewind_clients::Options;
 use std::alloc::Global;
 use std::convert::AsStr;
 use thiserror::Error;

@@ -1,6 +1,6 @@
 //! A run of a script. The replies to what is read at a time are gathered, and written together.
 ghost use Rattle.std.specs.Prelude.{◌≡◌, ◌+◌, ◌<◌, ◌≤◌, ◌^◌, ◌∷◌, ◌++◌, [], false, length, take, IfOk, IfErr, OnErr, OnOk};
-ghost use Rattle.rewind_lines.specs.Faults.{is_write_fault};
+ghost use Rattle.rewind_clients.specs.Faults.{is_write_fault};
 ghost use Rattle.rewind_lines.specs.Lines.{lines_of, whole_lines_of};
 ghost use Rattle.rewind_lines.specs.Readings.{reading_view};
 ghost use Rattle.rewind.specs.Faults.{IsOfLine, IsOfRun};
@@ -8,7 +8,8 @@ ghost use Rattle.rewind_answers.specs.Stages.{phase_of, phase_after};
 ghost use Rattle.rewind.specs.States.{AddsOne, AnswersOn, EndsAmong, Gathers, ReadsOn, Stands, StopsAmong, WaitsFew};
 
 use rewind_answers::{Answer, Stage, answer_line};
-use rewind_lines::{DebugFault, LineReader, Outbox, Reading, Sink};
+use rewind_clients::DebugFault;
+use rewind_lines::{LineReader, Outbox, Reading, Sink};
 use std::alloc::{AllocError, Global};
 use std::thread::Threads;
 

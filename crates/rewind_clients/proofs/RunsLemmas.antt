@@ -7,8 +7,8 @@ use Rattle.rewind_lines.specs.Cuts.{take-clip}
 use Rattle.rewind_lines.specs.Known.{Known, text_of-append}
 use Rattle.rewind_lines.specs.Texts.{text_of}
 use Rattle.nd_session.specs.Faults.{code_of}
-use Rattle.rewind_lines.specs.declared.fault.DebugFault.{DebugFault}
-use Rattle.rewind_lines.specs.declared.fault.DebugFault.TheVariants as fault
+use Rattle.rewind_clients.specs.declared.fault.DebugFault.{DebugFault}
+use Rattle.rewind_clients.specs.declared.fault.DebugFault.TheVariants as fault
 use Rattle.rewind_clients.specs.Gathered.{Gathered, GatherFails, StopsIn}
 use Rattle.rewind_clients.specs.Written.{WroteFront, WroteLines}
 use Rattle.rewind_clients.specs.Runs.{Ended, client_fault, faults_data}

@@ -8,9 +8,9 @@ use Rattle.rewind_lines.specs.Known.{Known, text_of-append}
 use Rattle.rewind_lines.specs.Texts.{text_of}
 use Rattle.rewind_forms.specs.declared.version.Version.{Version}
 use Rattle.rewind_answers.specs.Answers.{Logged}
-use Rattle.rewind_lines.specs.Faults.{is_write_fault}
-use Rattle.rewind_lines.specs.declared.fault.DebugFault.{DebugFault}
-use Rattle.rewind_lines.specs.declared.fault.DebugFault.TheVariants as fault
+use Rattle.rewind_clients.specs.Faults.{is_write_fault}
+use Rattle.rewind_clients.specs.declared.fault.DebugFault.{DebugFault}
+use Rattle.rewind_clients.specs.declared.fault.DebugFault.TheVariants as fault
 use Rattle.rewind_clients.specs.Clients.{Replies, Writes}
 use Rattle.rewind_clients.specs.Intake.{Commands, Intake, nothing, refused_graph, faulty_line, script}
 use Rattle.rewind_clients.specs.Intakes.{unstarted_view, version_replies}

@@ -3,8 +3,8 @@ use Rattle.std.specs.Prelude.{◌≡◌, ℕ, ◌+◌, ◌<◌, ◌≤◌, List,
 use Rattle.serde_json.specs.Data.{Data}
 use Rattle.rewind_lines.specs.Lines.{lines_of}
 use Rattle.rewind_lines.specs.Texts.{text_of}
-use Rattle.rewind_lines.specs.declared.fault.DebugFault.{DebugFault}
-use Rattle.rewind_lines.specs.declared.fault.DebugFault.TheVariants as fault
+use Rattle.rewind_clients.specs.declared.fault.DebugFault.{DebugFault}
+use Rattle.rewind_clients.specs.declared.fault.DebugFault.TheVariants as fault
 use Rattle.rewind_clients.specs.Intake.{Intake, Reads, nothing, opened, refused_graph, faulty_line, script}
 use Rattle.rewind_clients.specs.Runs.{AreLines}
 use Rattle.rewind_clients.specs.Written.{WroteFront, WroteLines}
@@ -35,35 +35,24 @@ Replies (script version opening machine commands) replies = (lines : List Data) 
 
 -- the run ends well with this intake; `IsRefused` and `IsFaulty` are those that end it with Graph and with Script
 abbrev pub EndsWell : Intake → Type 0
-EndsWell nothing = Unit {0}
-EndsWell (opened version reply) = Unit {0}
 EndsWell (refused_graph reply) = ⊥
 EndsWell (faulty_line reply) = ⊥
-EndsWell (script version opening machine commands) = Unit {0}
+EndsWell _ = Unit {0}
 
 abbrev pub IsRefused : Intake → Type 0
-IsRefused nothing = ⊥
-IsRefused (opened version reply) = ⊥
 IsRefused (refused_graph reply) = Unit {0}
-IsRefused (faulty_line reply) = ⊥
-IsRefused (script version opening machine commands) = ⊥
+IsRefused _ = ⊥
 
 abbrev pub IsFaulty : Intake → Type 0
-IsFaulty nothing = ⊥
-IsFaulty (opened version reply) = ⊥
-IsFaulty (refused_graph reply) = ⊥
 IsFaulty (faulty_line reply) = Unit {0}
-IsFaulty (script version opening machine commands) = ⊥
+IsFaulty _ = ⊥
 
 -- how reading fails before everything was read
 abbrev pub ReadFails : ℕ → List ℕ → Option (List ℕ) → DebugFault → Type 0
 ReadFails limit input left fault.Read = ReadPart limit input left
 ReadFails limit input left fault.Memory = ReadPart limit input left
 ReadFails limit input left fault.TooLong = (limit < length input) × (left ≡ Some (drop (limit + 1) input))
-ReadFails limit input left fault.Graph = ⊥
-ReadFails limit input left fault.Script = ⊥
-ReadFails limit input left fault.Write = ⊥
-ReadFails limit input left fault.Close = ⊥
+ReadFails limit input left _ = ⊥
 
 -- the writer held `before` and holds `after`: all replies were written
 abbrev pub WroteAll : Intake → List ℕ → Option (List ℕ) → Type 0
@@ -77,8 +66,7 @@ Writes intake before after (Err fault.Script) = IsFaulty intake × WroteAll inta
 Writes intake before after (Err fault.Write) = (replies : List Data) × Replies intake replies × WroteFront replies before after
 Writes intake before after (Err fault.Memory) = (replies : List Data) × Replies intake replies × WroteLines replies before after
 Writes intake before after (Err fault.Close) = (replies : List Data) × Replies intake replies × WroteLines replies before after
-Writes intake before after (Err fault.Read) = ⊥
-Writes intake before after (Err fault.TooLong) = ⊥
+Writes intake before after _ = ⊥
 
 -- How a run of several clients ends. The reader had `input` and has `left`; the writer held `before` and holds `after`.
 pub data Ends (processors clients limit : ℕ) (input : List ℕ) (left : Option (List ℕ)) (before : List ℕ) (after : Option (List ℕ)) (result : Result (Unit {0}) DebugFault) : Type 0 where
@@ -89,11 +77,5 @@ pub data Ends (processors clients limit : ℕ) (input : List ℕ) (left : Option
 -- how many bytes a run takes from a reader, whether or not the reader says what it has left: at most the limit, and one byte more
 -- if the script is longer
 abbrev pub Takes : {A : Type 0} → ℕ → Result A DebugFault → ℕ → Type 0
-Takes limit (Ok x) taken = taken ≤ limit
-Takes limit (Err fault.Graph) taken = taken ≤ limit
-Takes limit (Err fault.Script) taken = taken ≤ limit
-Takes limit (Err fault.Read) taken = taken ≤ limit
 Takes limit (Err fault.TooLong) taken = taken ≡ limit + 1
-Takes limit (Err fault.Write) taken = taken ≤ limit
-Takes limit (Err fault.Memory) taken = taken ≤ limit
-Takes limit (Err fault.Close) taken = taken ≤ limit
+Takes limit _ taken = taken ≤ limit

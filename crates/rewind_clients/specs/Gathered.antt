@@ -3,8 +3,8 @@ use Rattle.std.specs.Prelude.{◌≡◌, ℕ, List, [], ◌∷◌, ◌++◌, Opt
 use Rattle.serde_json.specs.Data.{Data}
 use Rattle.rewind_lines.specs.Texts.{text_of}
 use Rattle.rewind_clients.specs.Written.{WroteFront, WroteLines}
-use Rattle.rewind_lines.specs.declared.fault.DebugFault.{DebugFault}
-use Rattle.rewind_lines.specs.declared.fault.DebugFault.TheVariants as fault
+use Rattle.rewind_clients.specs.declared.fault.DebugFault.{DebugFault}
+use Rattle.rewind_clients.specs.declared.fault.DebugFault.TheVariants as fault
 
 -- The writer held `before` and holds `after`: the first of these replies were written, and the text of the others waits.
 pub record Gathered (replies : List Data) (waiting before : List ℕ) (after : Option (List ℕ)) : Type 0 where
@@ -18,28 +18,34 @@ pub record Gathered (replies : List Data) (waiting before : List ℕ) (after : O
 abbrev pub GatherFails : List Data → Data → List ℕ → List ℕ → Option (List ℕ) → DebugFault → Type 0
 GatherFails replies reply waiting before after fault.Memory = Gathered replies waiting before after
 GatherFails replies reply waiting before after fault.Write = WroteFront (replies ++ reply ∷ []) before after
-GatherFails replies reply waiting before after fault.Graph = ⊥
-GatherFails replies reply waiting before after fault.Script = ⊥
-GatherFails replies reply waiting before after fault.Read = ⊥
-GatherFails replies reply waiting before after fault.TooLong = ⊥
-GatherFails replies reply waiting before after fault.Close = ⊥
+GatherFails replies reply waiting before after _ = ⊥
+
+-- these replies are gathered after those before: `waited` and `held` become `waits` and `holds`
+abbrev pub GathersMore : List Data → List ℕ → Option (List ℕ) → List ℕ → Option (List ℕ) → Type 0
+GathersMore more waited held waits holds =
+    (replies : List Data) (before : List ℕ) → Gathered replies waited before held → Gathered (replies ++ more) waits before holds
 
 -- the errors of gathering
 abbrev pub IsOfWriting : DebugFault → Type 0
 IsOfWriting fault.Memory = Unit {0}
 IsOfWriting fault.Write = Unit {0}
-IsOfWriting fault.Graph = ⊥
-IsOfWriting fault.Script = ⊥
-IsOfWriting fault.Read = ⊥
-IsOfWriting fault.TooLong = ⊥
-IsOfWriting fault.Close = ⊥
+IsOfWriting _ = ⊥
 
 -- how gathering these replies ends early: out of memory, after some of their lines were written; or a write failed
 abbrev pub StopsIn : List Data → List ℕ → Option (List ℕ) → DebugFault → Type 0
 StopsIn replies before after fault.Memory = WroteLines replies before after
 StopsIn replies before after fault.Write = WroteFront replies before after
-StopsIn replies before after fault.Graph = ⊥
-StopsIn replies before after fault.Script = ⊥
-StopsIn replies before after fault.Read = ⊥
-StopsIn replies before after fault.TooLong = ⊥
-StopsIn replies before after fault.Close = ⊥
+StopsIn replies before after _ = ⊥
+
+-- gathering these replies after those before ends early
+abbrev pub StopsAmong : List Data → List ℕ → Option (List ℕ) → Option (List ℕ) → DebugFault → Type 0
+StopsAmong more waited held holds e =
+    (replies : List Data) (before : List ℕ) → Gathered replies waited before held → StopsIn (replies ++ more) before holds e
+
+-- the replies are written after what the writer held
+abbrev pub WritesAll : List Data → Option (List ℕ) → Option (List ℕ) → Type 0
+WritesAll replies held holds = (before : List ℕ) → held ≡ Some before → holds ≡ Some (before ++ text_of replies)
+
+-- writing them ends early
+abbrev pub WritingStops : List Data → Option (List ℕ) → Option (List ℕ) → DebugFault → Type 0
+WritingStops replies held holds e = (before : List ℕ) → held ≡ Some before → StopsIn replies before holds e

@@ -5,6 +5,7 @@ use Rattle.serde_json.specs.Data.{Data}
 use Rattle.nd_timeline.specs.declared.command.Command.{Command}
 use Rattle.rewind_forms.specs.Errors.{error_data}
 use Rattle.rewind_forms.specs.declared.replies.ErrorReply.{ErrorReply}
+use Rattle.rewind_forms.specs.declared.replies.GraphReply.{GraphReply}
 use Rattle.rewind_forms.specs.Replies.{graph as graph_reply, version as version_reply}
 use Rattle.rewind_forms.specs.Versions.{number_of}
 use Rattle.rewind_forms.specs.declared.version.Version.{Version}
@@ -34,9 +35,13 @@ unstarted_view (Some version) = opened version (version_reply (number_of version
 abbrev pub version_of : Script → Version
 version_of s = unwrap_or s.opened First
 
--- the replies to its version line, if there was one, and to its graph
+-- the replies to a version line, if there was one, and to the graph
+abbrev pub opening_data : Option Version → GraphReply → List Data
+opening_data opened reply = version_replies opened ++ graph_reply reply.locations reply.processors ∷ []
+
+-- those of a script
 abbrev pub opening_replies : Script → List Data
-opening_replies s = version_replies s.opened ++ graph_reply s.reply.locations s.reply.processors ∷ []
+opening_replies s = opening_data s.opened s.reply
 
 abbrev pub script_view : Script → read.Intake
 script_view s = script (version_of s) (opening_replies s) (logged s.state) (lists_of s.commands.items)

@@ -1,4 +1,5 @@
 pub mod Clients
+pub mod Faults
 pub mod Gathered
 pub mod Intake
 pub mod Intakes

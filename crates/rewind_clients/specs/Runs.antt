@@ -14,7 +14,7 @@ use Rattle.nd_session.specs.Faults.{code_of}
 use Rattle.nd_session.specs.declared.close.Log.{Log}
 use Rattle.nd_session.specs.declared.receipt.Receipt.{Receipt}
 use Rattle.nd_session.specs.declared.fault.SessionFault.{SessionFault}
-use Rattle.nd_session.specs.declared.fault.SessionFault.TheVariants.{NotThisSession, LogFull, TooManyClients, Memory}
+use Rattle.nd_session.specs.declared.fault.SessionFault.TheVariants.{LogFull, Memory}
 use Rattle.rewind_forms.specs.Replies.{reply_data}
 use Rattle.rewind_clients.specs.Intake.{Commands}
 
@@ -41,16 +41,12 @@ abbrev pub MayEnd : Ended → Type 0
 MayEnd None = Unit {0}
 MayEnd (Some LogFull) = Unit {0}
 MayEnd (Some Memory) = Unit {0}
-MayEnd (Some TooManyClients) = ⊥
-MayEnd (Some (NotThisSession index found)) = ⊥
+MayEnd _ = ⊥
 
 -- whether the client met a full log
 abbrev pub is_full : Ended → Bool
-is_full None = false
 is_full (Some LogFull) = true
-is_full (Some Memory) = false
-is_full (Some TooManyClients) = false
-is_full (Some (NotThisSession index found)) = false
+is_full _ = false
 
 -- the errors of the clients that had one, by the clients' numbers from k on
 abbrev pub faults_data : ℕ → List Ended → List Data

@@ -4,8 +4,8 @@ use Rattle.std.specs.declared.alloc.Global.{Global}
 use Rattle.nd_timeline.specs.declared.command.Command.{Command}
 use Rattle.nd_session.specs.Faults.{CommandMayFail}
 use Rattle.nd_session.specs.declared.receipt.Receipt.{Receipt}
-use Rattle.rewind_lines.specs.declared.fault.DebugFault.{DebugFault}
-use Rattle.rewind_lines.specs.declared.fault.DebugFault.TheVariants as fault
+use Rattle.rewind_clients.specs.declared.fault.DebugFault.{DebugFault}
+use Rattle.rewind_clients.specs.declared.fault.DebugFault.TheVariants as fault
 use Rattle.rewind_clients.specs.Runs.{IsServed, MayEnd}
 use Rattle.rewind_clients.specs.declared.drive.Done.{Done}
 use Rattle.rewind_clients.specs.declared.drive.Task.{Task}
@@ -45,18 +45,10 @@ pub record AreFresh (commands : List (List (Command Global))) (ts : List Task) :
 abbrev pub IsOfDriving : DebugFault → Type 0
 IsOfDriving fault.Memory = Unit {0}
 IsOfDriving fault.Close = Unit {0}
-IsOfDriving fault.Graph = ⊥
-IsOfDriving fault.Script = ⊥
-IsOfDriving fault.Read = ⊥
-IsOfDriving fault.Write = ⊥
-IsOfDriving fault.TooLong = ⊥
+IsOfDriving _ = ⊥
 
 -- the errors of a script that was read completely
 abbrev pub IsOfAnswering : DebugFault → Type 0
-IsOfAnswering fault.Memory = Unit {0}
-IsOfAnswering fault.Close = Unit {0}
-IsOfAnswering fault.Graph = Unit {0}
-IsOfAnswering fault.Script = Unit {0}
-IsOfAnswering fault.Write = Unit {0}
 IsOfAnswering fault.Read = ⊥
 IsOfAnswering fault.TooLong = ⊥
+IsOfAnswering _ = Unit {0}

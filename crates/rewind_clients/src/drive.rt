@@ -6,13 +6,13 @@ ghost use Rattle.rewind_clients.specs.Intakes.{lists_of};
 ghost use Rattle.rewind_clients.specs.Served.{AreDone, AreFresh, EndsOtherwise, IsDone, IsOfDriving, asked};
 ghost use Rattle.rewind_clients.specs.Runs.{is_full as is_full_in, IsServed, MayEnd, IsRun, machine_of};
 
+use crate::DebugFault;
 use crate::gated::Gated;
 use crate::same::same_graph;
 use nd_history::Gate;
 use nd_session::{Client, Log, Session, SessionFault, State};
 use nd_time::limits::MAX_LOG;
 use nd_timeline::Command;
-use rewind_lines::DebugFault;
 use std::alloc::{AllocError, Global};
 use std::sync::Wait;
 use std::thread;

@@ -1,12 +1,13 @@
 //! Replies that are gathered one after another, and written together.
-ghost use Rattle.std.specs.Prelude.{◌≡◌, ◌<◌, ◌++◌, ◌∷◌, [], ℕ, List, false, length, is_err, IfErr, OnOk, OnErr};
+ghost use Rattle.std.specs.Prelude.{◌≡◌, ◌<◌, ◌∷◌, [], ℕ, List, false, length, is_err, IfErr, OnOk, OnErr};
 ghost use Rattle.serde_json.specs.Data.{Data};
-ghost use Rattle.rewind_lines.specs.Faults.{is_write_fault};
-ghost use Rattle.rewind_clients.specs.Gathered.{Gathered, GatherFails, IsOfWriting};
+ghost use Rattle.rewind_clients.specs.Faults.{is_write_fault};
+ghost use Rattle.rewind_clients.specs.Gathered.{Gathered, GatherFails, GathersMore, IsOfWriting};
 ghost use Rattle.rewind_clients.specs.Written.{WroteFront};
 
+use crate::DebugFault;
 use rewind_forms::{Names, Shown, text_of};
-use rewind_lines::{DebugFault, Outbox, Sink, Unwritten};
+use rewind_lines::{Outbox, Sink, Unwritten};
 use std::alloc::Global;
 
 /// Writes the replies that wait.
@@ -34,10 +35,8 @@ pub fn put<T: Sink, N: Names, V: Shown>(
     reply: &V,
 ) -> Result<(), DebugFault>
     requires sound { T.failed sink.old ≡ false }
-    ensures ok { OnOk result ((replies : List Data) (before : List ℕ)
-        → Gathered replies outbox.old before (T.contents sink.old)
-        → Gathered (replies ++ V.shown (N.graph names.now) reply.now ∷ [])
-        outbox.new before (T.contents sink.new)) }
+    ensures ok { OnOk result (GathersMore (V.shown (N.graph names.now) reply.now ∷ [])
+        outbox.old (T.contents sink.old) outbox.new (T.contents sink.new)) }
     ensures err { IfErr result (λ e. (replies : List Data) (before : List ℕ)
         → Gathered replies outbox.old before (T.contents sink.old)
         → GatherFails replies (V.shown (N.graph names.now) reply.now)

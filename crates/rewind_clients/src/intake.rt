@@ -12,12 +12,13 @@ ghost use Rattle.rewind_clients.specs.Orders.{order_in as order_line};
 ghost use Rattle.rewind_clients.specs.Intake.{ReadsLine, no_commands as no_commands_in, ordered, with_command};
 ghost use Rattle.rewind_clients.specs.Intakes.{intake_view, lists_of, opening_replies, or_faulty, unstarted_view, version_of as version_in, Starts};
 
+use crate::Options;
 use crate::order::{Order, order_in};
 use nd_session::State;
 use nd_timeline::Command;
 use rewind_answers::{First, Started, answer_first};
 use rewind_forms::{ErrorReply, GraphReply, LineFault, Version, version_of};
-use rewind_lines::{Options, Reading};
+use rewind_lines::Reading;
 use serde_json::Value;
 use std::alloc::{AllocError, Global};
 
@@ -151,8 +152,8 @@ impl Script {
         line: u64,
     ) -> Result<Option<ErrorReply>, AllocError>
         ensures { IfOk result (λ r. or_faulty r self.new ≡ ordered (version_in self.old)
-            (opening_replies self.old) (logged self.old.state) (lists_of self.old.commands.items) line
-            (order_line (version_in self.old) (length self.old.commands.items)
+            (opening_replies self.old) (logged self.old.state) (lists_of self.old.commands.items)
+            line (order_line (version_in self.old) (length self.old.commands.items)
             (cluster_of self.old.state.machine.timeline).graph (reading_view reading))) }
     {
         let version = self.opened.unwrap_or(Version::First);

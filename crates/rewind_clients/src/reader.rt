@@ -1,18 +1,15 @@
 //! A complete script, from a source of bytes.
 ghost use Rattle.std.specs.Prelude.{◌≡◌, ◌+◌, ◌-◌, ◌<◌, ◌≤◌, ◌^◌, ◌∷◌, ◌++◌, [], ℕ, List, Some, false, true, length, IfOk, IfErr, OnOk};
-ghost use Rattle.rewind_lines.specs.Faults.{is_read_fault};
-ghost use Rattle.rewind_lines.specs.declared.options.Options.{Options as TheOptions};
+ghost use Rattle.rewind_clients.specs.Faults.{is_read_fault};
+ghost use Rattle.rewind_clients.specs.declared.options.Options.{Options as TheOptions};
 ghost use Rattle.rewind_clients.specs.Clients.{ReadFails, ReadWhole, Takes};
 ghost use Rattle.rewind_clients.specs.Intakes.{intake_view};
 ghost use Rattle.rewind_clients.specs.Readers.{IsOfReading, StandsAt};
 
 use crate::intake::Intake;
-use nd_time::limits::MAX_LINE;
-use rewind_lines::{DebugFault, LineReader, Options, Source, front, read_into};
+use crate::{DebugFault, Options};
+use rewind_lines::{CHUNK, LineReader, Source, front, read_into};
 use std::alloc::{AllocError, Global};
-
-/// The most bytes that are read at a time.
-const CHUNK: usize = MAX_LINE + 1;
 
 /// What was read of a script, and the result.
 #[derive(Drop)]

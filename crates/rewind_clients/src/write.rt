@@ -1,19 +1,17 @@
 //! The replies to the clients, as lines.
-ghost use Rattle.std.specs.Prelude.{◌≡◌, ◌++◌, ◌∷◌, [], ℕ, List, Some, false, map, IfOk, IfErr, OnOk};
-ghost use Rattle.serde_json.specs.Data.{Data};
+ghost use Rattle.std.specs.Prelude.{◌≡◌, ◌∷◌, [], false, map, IfErr, OnOk};
 ghost use Rattle.rewind_forms.specs.Errors.{no_graph};
-ghost use Rattle.rewind_forms.specs.Replies.{graph as graph_data};
-ghost use Rattle.rewind_lines.specs.Texts.{text_of};
-ghost use Rattle.rewind_lines.specs.Faults.{is_write_fault};
-ghost use Rattle.rewind_clients.specs.Intakes.{version_replies};
-ghost use Rattle.rewind_clients.specs.Gathered.{Gathered, IsOfWriting, StopsIn};
+ghost use Rattle.rewind_clients.specs.Faults.{is_write_fault};
+ghost use Rattle.rewind_clients.specs.Intakes.{opening_data, version_replies};
+ghost use Rattle.rewind_clients.specs.Gathered.{GathersMore, IsOfWriting, StopsAmong, WritesAll, WritingStops};
 ghost use Rattle.rewind_clients.specs.Runs.{entry_data, faults_data, lines_data};
 
+use crate::DebugFault;
 use crate::gather::{flush, put};
 use nd_graph::Graph;
 use nd_session::{Receipt, SessionFault};
 use rewind_forms::{GraphReply, NoNames, Shown, Version, object};
-use rewind_lines::{DebugFault, Outbox, Sink};
+use rewind_lines::{Outbox, Sink};
 use std::alloc::Global;
 
 /// Gathers the lines of the entries of a log.
@@ -25,13 +23,10 @@ pub fn put_log<T: Sink>(
     log: &[Receipt],
 ) -> Result<(), DebugFault>
     requires sound { T.failed sink.old ≡ false }
-    ensures ok { OnOk result ((replies : List Data) (before : List ℕ)
-        → Gathered replies outbox.old before (T.contents sink.old)
-        → Gathered (replies ++ map (entry_data graph.now) log.now)
-        outbox.new before (T.contents sink.new)) }
-    ensures err { IfErr result (λ e. (replies : List Data) (before : List ℕ)
-        → Gathered replies outbox.old before (T.contents sink.old)
-        → StopsIn (replies ++ map (entry_data graph.now) log.now) before (T.contents sink.new) e) }
+    ensures ok { OnOk result (GathersMore (map (entry_data graph.now) log.now)
+        outbox.old (T.contents sink.old) outbox.new (T.contents sink.new)) }
+    ensures err { IfErr result (StopsAmong (map (entry_data graph.now) log.now)
+        outbox.old (T.contents sink.old) (T.contents sink.new)) }
     ensures kind { IfErr result IsOfWriting }
     ensures failed { T.failed sink.new ≡ is_write_fault result }
 {
@@ -57,13 +52,10 @@ fn put_fault<T: Sink>(
     fault: &Option<SessionFault>,
 ) -> Result<(), DebugFault>
     requires sound { T.failed sink.old ≡ false }
-    ensures ok { OnOk result ((replies : List Data) (before : List ℕ)
-        → Gathered replies outbox.old before (T.contents sink.old)
-        → Gathered (replies ++ faults_data client (fault.now ∷ []))
-        outbox.new before (T.contents sink.new)) }
-    ensures err { IfErr result (λ e. (replies : List Data) (before : List ℕ)
-        → Gathered replies outbox.old before (T.contents sink.old)
-        → StopsIn (replies ++ faults_data client (fault.now ∷ [])) before (T.contents sink.new) e) }
+    ensures ok { OnOk result (GathersMore (faults_data client (fault.now ∷ []))
+        outbox.old (T.contents sink.old) outbox.new (T.contents sink.new)) }
+    ensures err { IfErr result (StopsAmong (faults_data client (fault.now ∷ []))
+        outbox.old (T.contents sink.old) (T.contents sink.new)) }
     ensures kind { IfErr result IsOfWriting }
     ensures failed { T.failed sink.new ≡ is_write_fault result }
 {
@@ -84,13 +76,10 @@ pub fn put_faults<T: Sink>(
     faults: &[Option<SessionFault>],
 ) -> Result<(), DebugFault>
     requires sound { T.failed sink.old ≡ false }
-    ensures ok { OnOk result ((replies : List Data) (before : List ℕ)
-        → Gathered replies outbox.old before (T.contents sink.old)
-        → Gathered (replies ++ faults_data 0 faults.now)
-        outbox.new before (T.contents sink.new)) }
-    ensures err { IfErr result (λ e. (replies : List Data) (before : List ℕ)
-        → Gathered replies outbox.old before (T.contents sink.old)
-        → StopsIn (replies ++ faults_data 0 faults.now) before (T.contents sink.new) e) }
+    ensures ok { OnOk result (GathersMore (faults_data 0 faults.now)
+        outbox.old (T.contents sink.old) outbox.new (T.contents sink.new)) }
+    ensures err { IfErr result (StopsAmong (faults_data 0 faults.now)
+        outbox.old (T.contents sink.old) (T.contents sink.new)) }
     ensures kind { IfErr result IsOfWriting }
     ensures failed { T.failed sink.new ≡ is_write_fault result }
 {
@@ -107,10 +96,10 @@ pub fn write_reply<T: Sink, V: Shown>(
     reply: &V,
 ) -> Result<(), DebugFault>
     requires sound { T.failed sink.old ≡ false }
-    ensures ok { OnOk result ((before : List ℕ) → T.contents sink.old ≡ Some before
-        → T.contents sink.new ≡ Some (before ++ text_of (V.shown no_graph reply.now ∷ []))) }
-    ensures err { IfErr result (λ e. (before : List ℕ) → T.contents sink.old ≡ Some before
-        → StopsIn (V.shown no_graph reply.now ∷ []) before (T.contents sink.new) e) }
+    ensures ok { OnOk result (WritesAll (V.shown no_graph reply.now ∷ [])
+        (T.contents sink.old) (T.contents sink.new)) }
+    ensures err { IfErr result (WritingStops (V.shown no_graph reply.now ∷ [])
+        (T.contents sink.old) (T.contents sink.new)) }
     ensures kind { IfErr result IsOfWriting }
     ensures failed { T.failed sink.new ≡ is_write_fault result }
 {
@@ -128,12 +117,10 @@ fn put_version<T: Sink>(
     opened: Option<Version>,
 ) -> Result<(), DebugFault>
     requires sound { T.failed sink.old ≡ false }
-    ensures ok { OnOk result ((replies : List Data) (before : List ℕ)
-        → Gathered replies outbox.old before (T.contents sink.old)
-        → Gathered (replies ++ version_replies opened) outbox.new before (T.contents sink.new)) }
-    ensures err { IfErr result (λ e. (replies : List Data) (before : List ℕ)
-        → Gathered replies outbox.old before (T.contents sink.old)
-        → StopsIn (replies ++ version_replies opened) before (T.contents sink.new) e) }
+    ensures ok { OnOk result (GathersMore (version_replies opened)
+        outbox.old (T.contents sink.old) outbox.new (T.contents sink.new)) }
+    ensures err { IfErr result (StopsAmong (version_replies opened)
+        outbox.old (T.contents sink.old) (T.contents sink.new)) }
     ensures kind { IfErr result IsOfWriting }
     ensures failed { T.failed sink.new ≡ is_write_fault result }
 {
@@ -152,10 +139,10 @@ pub fn write_version<T: Sink>(
     opened: Option<Version>,
 ) -> Result<(), DebugFault>
     requires sound { T.failed sink.old ≡ false }
-    ensures ok { OnOk result ((before : List ℕ) → T.contents sink.old ≡ Some before
-        → T.contents sink.new ≡ Some (before ++ text_of (version_replies opened))) }
-    ensures err { IfErr result (λ e. (before : List ℕ) → T.contents sink.old ≡ Some before
-        → StopsIn (version_replies opened) before (T.contents sink.new) e) }
+    ensures ok { OnOk result (WritesAll (version_replies opened)
+        (T.contents sink.old) (T.contents sink.new)) }
+    ensures err { IfErr result (WritingStops (version_replies opened)
+        (T.contents sink.old) (T.contents sink.new)) }
     ensures kind { IfErr result IsOfWriting }
     ensures failed { T.failed sink.new ≡ is_write_fault result }
 {
@@ -173,11 +160,10 @@ pub fn write_opening<T: Sink>(
     graph: &GraphReply,
 ) -> Result<(), DebugFault>
     requires sound { T.failed sink.old ≡ false }
-    ensures ok { OnOk result ((before : List ℕ) → T.contents sink.old ≡ Some before
-        → T.contents sink.new
-        ≡ Some (before ++ text_of (version_replies opened ++ graph_data graph.now.locations graph.now.processors ∷ []))) }
-    ensures err { IfErr result (λ e. (before : List ℕ) → T.contents sink.old ≡ Some before
-        → StopsIn (version_replies opened ++ graph_data graph.now.locations graph.now.processors ∷ []) before (T.contents sink.new) e) }
+    ensures ok { OnOk result (WritesAll (opening_data opened graph.now)
+        (T.contents sink.old) (T.contents sink.new)) }
+    ensures err { IfErr result (WritingStops (opening_data opened graph.now)
+        (T.contents sink.old) (T.contents sink.new)) }
     ensures kind { IfErr result IsOfWriting }
     ensures failed { T.failed sink.new ≡ is_write_fault result }
 {
@@ -197,11 +183,10 @@ pub fn write_log<T: Sink>(
     faults: &[Option<SessionFault>],
 ) -> Result<(), DebugFault>
     requires sound { T.failed sink.old ≡ false }
-    ensures ok { OnOk result ((before : List ℕ) → T.contents sink.old ≡ Some before
-        → T.contents sink.new
-        ≡ Some (before ++ text_of (lines_data graph.now log.now faults.now))) }
-    ensures err { IfErr result (λ e. (before : List ℕ) → T.contents sink.old ≡ Some before
-        → StopsIn (lines_data graph.now log.now faults.now) before (T.contents sink.new) e) }
+    ensures ok { OnOk result (WritesAll (lines_data graph.now log.now faults.now)
+        (T.contents sink.old) (T.contents sink.new)) }
+    ensures err { IfErr result (WritingStops (lines_data graph.now log.now faults.now)
+        (T.contents sink.old) (T.contents sink.new)) }
     ensures kind { IfErr result IsOfWriting }
     ensures failed { T.failed sink.new ≡ is_write_fault result }
 {

@@ -19,7 +19,8 @@ use std::alloc::Global;
 // Returns the numbers of the time at the key, or `None` if there is no such key.
 #[tactic(auto, unfolding(crate::specs::Sends::numbers_if))]
 fn numbers_if(alloc: Global, value: &Value, key: &str) -> Result<Option<Vec<u32>>, LineFault>
-    ensures ok { IfOk result (λ o. numbers_in key.now (view value.now) ≡ Ok (option_map (λ v. v.items) o)) }
+    ensures ok { IfOk result (λ o.
+        numbers_in key.now (view value.now) ≡ Ok (option_map (λ v. v.items) o)) }
     ensures err { IfErr result (FailsWith (numbers_in key.now (view value.now))) }
 {
     if value.get(key).is_none() {

@@ -1,5 +1,4 @@
 pub mod Cuts
-pub mod Faults
 pub mod Front
 pub mod Known
 pub mod Lines

@@ -2,19 +2,15 @@
 //! of the lines, the replies that wait to be written, and a sink of bytes. This crate does not know about commands.
 #![tactic(auto)]
 
-mod fault;
 mod line;
-mod options;
 mod outbox;
 mod reader;
 mod reading;
 mod sink;
 mod source;
 
-pub use fault::DebugFault;
-pub use options::Options;
 pub use outbox::Outbox;
 pub use reader::LineReader;
 pub use reading::{Reading, parse};
 pub use sink::{Sink, Unwritten, WriteSink, send};
-pub use source::{ReadSource, Source, Unread, front, read_into};
+pub use source::{CHUNK, ReadSource, Source, Unread, front, read_into};

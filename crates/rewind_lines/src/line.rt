@@ -26,7 +26,8 @@ impl<A: Allocator> Model for Line<A> {
 
     ghost Value = { Front };
 
-    ghost view = { λ l. record { bytes = l.front.items; is_longer = l.is_longer; is_blank = l.is_blank } };
+    ghost view = { λ l.
+        record { bytes = l.front.items; is_longer = l.is_longer; is_blank = l.is_blank } };
 }
 
 impl<A: Allocator> Line<A> {

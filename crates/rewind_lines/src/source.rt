@@ -3,8 +3,12 @@ ghost use Rattle.std.specs.Prelude.{◌≡◌, ◌+◌, ◌<◌, ◌≤◌, ◌^
 ghost use Rattle.std.specs.Io.KnownBytes.{Consumes, IsAtEnd, Keeps, ReadConsumes};
 ghost use Rattle.rewind_lines.specs.Reads.{given_by, is_end};
 
+use nd_time::limits::MAX_LINE;
 use std::io::Read;
 use thiserror::Error;
+
+/// The most bytes that are read at a time: the longest line that is parsed as JSON, and its newline.
+pub const CHUNK: usize = MAX_LINE + 1;
 
 /// A read failed.
 #[derive(Clone, Copy, Debug, Drop, PartialEq, Eq, Error)]

@@ -1,10 +1,9 @@
 //! Why a run of a script ended before its input ended.
 
 ghost use Rattle.std.specs.Prelude.{◌≡◌};
-ghost use Rattle.rewind_lines.specs.Faults.{status_of};
+ghost use Rattle.rewind_clients.specs.Faults.{status_of};
 
-use crate::sink::Unwritten;
-use crate::source::Unread;
+use rewind_lines::{Unread, Unwritten};
 use std::alloc::{AllocError, AllocFailed};
 use thiserror::Error;
 
@@ -49,7 +48,7 @@ impl DebugFault {
 }
 
 impl From<AllocError> for DebugFault {
-    ghost use Rattle.rewind_lines.specs.declared.fault.DebugFault.TheVariants.{Memory};
+    ghost use Rattle.rewind_clients.specs.declared.fault.DebugFault.TheVariants.{Memory};
 
     ghost from_gives = { λ _ e. e ≡ Memory };
 
@@ -59,7 +58,7 @@ impl From<AllocError> for DebugFault {
 }
 
 impl<T: Drop> From<AllocFailed<T>> for DebugFault {
-    ghost use Rattle.rewind_lines.specs.declared.fault.DebugFault.TheVariants.{Memory};
+    ghost use Rattle.rewind_clients.specs.declared.fault.DebugFault.TheVariants.{Memory};
 
     ghost from_gives = { λ _ e. e ≡ Memory };
 
@@ -69,7 +68,7 @@ impl<T: Drop> From<AllocFailed<T>> for DebugFault {
 }
 
 impl From<Unread> for DebugFault {
-    ghost use Rattle.rewind_lines.specs.declared.fault.DebugFault.TheVariants.{Read};
+    ghost use Rattle.rewind_clients.specs.declared.fault.DebugFault.TheVariants.{Read};
 
     ghost from_gives = { λ _ e. e ≡ Read };
 
@@ -79,7 +78,7 @@ impl From<Unread> for DebugFault {
 }
 
 impl From<Unwritten> for DebugFault {
-    ghost use Rattle.rewind_lines.specs.declared.fault.DebugFault.TheVariants.{Write};
+    ghost use Rattle.rewind_clients.specs.declared.fault.DebugFault.TheVariants.{Write};
 
     ghost from_gives = { λ _ e. e ≡ Write };
 
