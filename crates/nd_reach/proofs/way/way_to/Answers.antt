@@ -14,13 +14,13 @@ loop-at-smaller g c =
     let f = c.requires.found in
     let same = one_node c.args.nodes.now c.loop-at.at c.index-nodes-at.result c.index-nodes-at-in-Some.result c.loop-at.invariant.within c.index-nodes-at.is c.index-nodes-at-in-Some.is in
     subst (λ (n : Node _). n.parent < c.loop-at.at) same
-    (parent_of c.args.nodes.now c.args.k c.loop-at.at c.loop-at.steps c.loop-at.invariant.leads c.index-nodes-at.result c.loop-at.invariant.within c.index-nodes-at.is c.in-Some.record (ap (λ (n : Node _). n.made) c.index-nodes-at.is ∙ c.in-Some.is) f.0 f.1 f.2 f.3)
+    (parent_of c.args.nodes.now c.args.k c.loop-at.at c.loop-at.steps c.loop-at.invariant.leads c.index-nodes-at.result c.loop-at.invariant.within c.index-nodes-at.is c.in-Some.record (ap (λ (n : Node _). n.made) c.index-nodes-at.is ∙ c.in-Some.is) f.0 f.1.0 f.1.1 f.1.2)
 
 pub loop-at-preserved : goal.loop-at-preserved
 loop-at-preserved g c =
     let f = c.requires.found in
     let same = one_node c.args.nodes.now c.loop-at.at c.index-nodes-at.result c.index-nodes-at-in-Some.result c.loop-at.invariant.within c.index-nodes-at.is c.index-nodes-at-in-Some.is in
-    let before = parent_of c.args.nodes.now c.args.k c.loop-at.at c.loop-at.steps c.loop-at.invariant.leads c.index-nodes-at.result c.loop-at.invariant.within c.index-nodes-at.is c.in-Some.record (ap (λ (n : Node _). n.made) c.index-nodes-at.is ∙ c.in-Some.is) f.0 f.1 f.2 f.3 in
+    let before = parent_of c.args.nodes.now c.args.k c.loop-at.at c.loop-at.steps c.loop-at.invariant.leads c.index-nodes-at.result c.loop-at.invariant.within c.index-nodes-at.is c.in-Some.record (ap (λ (n : Node _). n.made) c.index-nodes-at.is ∙ c.in-Some.is) f.0 f.1.0 f.1.1 f.1.2 in
     let on = leads_back c.args.nodes.now c.args.k c.loop-at.at c.loop-at.steps c.loop-at.invariant.leads c.index-nodes-at.result c.loop-at.invariant.within c.index-nodes-at.is c.in-Some.record c.in_ok-copy.field-0 (ap (λ (n : Node _). n.made) c.index-nodes-at.is ∙ c.in-Some.is) c.in_ok-copy.ensures in
     record {
       within = subst (λ (n : Node _). n.parent < length c.args.nodes.now) same (omega (arith, before, c.loop-at.invariant.within));

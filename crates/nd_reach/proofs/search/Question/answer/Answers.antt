@@ -24,9 +24,11 @@ pub way_to-requires-clause-found : goal.way_to-requires-clause-found
 way_to-requires-clause-found g c =
     let hit = as_hit (wanted c.args.self.now) c.args.found.now.forms.keys c.args.found.now.nodes.items c.args.end c.in-Some.end c.in-Some.is c.in-Hit.is c.requires.run in (
       c.args.self.now.start.now,
-      hit.earlier ++ hit.last ∷ [],
-      c.args.found.now.forms.keys,
-      subst (AreFound c.args.self.now.start.now (hit.earlier ++ hit.last ∷ []) c.args.found.now.forms.keys) (sym c.deref.ensures.value) hit.found,
+      (
+        hit.earlier ++ hit.last ∷ [],
+        c.args.found.now.forms.keys,
+        subst (AreFound c.args.self.now.start.now (hit.earlier ++ hit.last ∷ []) c.args.found.now.forms.keys) (sym c.deref.ensures.value) hit.found,
+      ),
     )
 
 pub returns-in_ok-steps-in-Hit-clause-reached : goal.returns-in_ok-steps-in-Hit-clause-reached
