@@ -37,7 +37,7 @@ version_of s = unwrap_or s.opened First
 
 -- the replies to a version line, if there was one, and to the graph
 abbrev pub opening_data : Option Version → GraphReply → List Data
-opening_data opened reply = version_replies opened ++ graph_reply reply.locations reply.processors ∷ []
+opening_data version reply = version_replies version ++ graph_reply reply.locations reply.processors ∷ []
 
 -- those of a script
 abbrev pub opening_replies : Script → List Data
