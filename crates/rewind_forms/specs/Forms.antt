@@ -1,5 +1,5 @@
 -- The shapes of a line's values, and of what is read from them.
-use Rattle.std.specs.Prelude.{◌≡◌, ◌≢◌, ℕ, ℤ, Bool, ◌&&◌, List, [], ◌∷◌, length, nat_le, nat_lt, if◌then◌else◌, Option, Some, None, codes, option_map, option_and_then, Result, Ok, Err}
+use Rattle.std.specs.Prelude.{◌≡◌, ◌≢◌, ℕ, ℤ, Bool, ◌&&◌, List, [], ◌∷◌, length, nat_le, nat_lt, if◌then◌else◌, Option, Some, None, codes, option_map, option_and_then, Result, Ok, Err, ⊤, IsSome, IsSomeAnd}
 use Rattle.serde_json.specs.Data.{Data}
 use Rattle.serde_json.specs.Find.{get}
 use Rattle.nd_json.specs.Forms.{has_keys, text, list, small, integer, text_at, list_at}
@@ -29,6 +29,21 @@ within (Some d) read other = read d
 -- the error is that of the reading, unless memory ran out
 abbrev pub FailsWith : {B : Type 0} → Result B LineFault → LineFault → Type 0
 FailsWith reading e = e ≢ Memory → reading ≡ Err e
+
+-- the error is out of memory only if the reading asks for memory
+abbrev pub OnlyIf : Type 0 → LineFault → Type 0
+OnlyIf asks e = e ≡ Memory → asks
+
+-- a value is found, or memory runs out, only if the reading asks for memory
+abbrev pub FindsIf : {A E : Type 0} → Type 0 → Result (Option A) E → Type 0
+FindsIf asks (Ok None) = ⊤
+FindsIf asks (Ok (Some x)) = asks
+FindsIf asks (Err e) = asks
+
+-- the value is read in one way, or there is none and it goes on in another
+abbrev pub Either : Option Data → (Data → Type 0) → Type 0 → Type 0
+Either None one other = other
+Either (Some d) one other = one d
 
 -- ---- values
 
@@ -91,6 +106,16 @@ processors_at key d = option_and_then processors_of (list_at key d)
 -- the name at the key, and the numbers of the time at the key "time"
 unfoldable pub named_at : List ℕ → Data → Option (List ℕ × List ℕ)
 named_at key d = option_and_then (λ name. option_map (λ numbers. (name, numbers)) (numbers_at (codes "time") d)) (text_at key d)
+
+-- ---- from when memory is asked for: what reading has found by then, a list or the condition of a breakpoint
+
+-- a list is at the key
+unfoldable pub HasList : List ℕ → Data → Type 0
+HasList key d = IsSome (list_at key d)
+
+-- a name is at the key, and a list at the key "time"
+unfoldable pub HasNamed : List ℕ → Data → Type 0
+HasNamed key d = IsSomeAnd (text_at key d) (λ name. HasList (codes "time") d)
 
 -- ---- objects
 

@@ -1,14 +1,15 @@
 -- The query that a line asks for. The shapes of its values are tested first, then the names, then the times.
-use Rattle.std.specs.Prelude.{Bool, codes, if◌then◌else◌, Result, Ok}
+use Rattle.std.specs.Prelude.{Bool, codes, if◌then◌else◌, Result, Ok, IsSomeAnd}
 use Rattle.serde_json.specs.Data.{Data}
 use Rattle.serde_json.specs.Find.{get}
 use Rattle.nd_json.specs.Forms.{boolean_at, text_at, small_at, whole_at}
 use Rattle.nd_graph.specs.Graph.{Dataflow}
 use Rattle.nd_view.specs.declared.extent.Extent.{Extent}
 use Rattle.nd_view.specs.declared.extent.Extent.TheVariants.{AtOrBefore, StrictlyBefore}
-use Rattle.rewind_forms.specs.Forms.{given, after, point_at}
+use Rattle.rewind_forms.specs.Forms.{given, after, point_at, HasList, HasNamed}
 use Rattle.rewind_forms.specs.Places.{location_named, time_of, point_there}
-use Rattle.rewind_forms.specs.Conditions.{condition_of}
+use Rattle.rewind_forms.specs.Atoms.{PassedAsks}
+use Rattle.rewind_forms.specs.Conditions.{condition_of, ConditionAsks}
 use Rattle.rewind_forms.specs.Allowed.{allowed_at, nothing_allowed}
 use Rattle.rewind_forms.specs.declared.version.Version.{Version}
 use Rattle.rewind_forms.specs.declared.form.QueryForm.{QueryForm}
@@ -32,10 +33,10 @@ before_of g d =
     given BadTime (time_of g m to.1) (λ t.
     Ok (Before (record { location = l; time = s }) (record { location = m; time = t }))))))))
 
-unfoldable pub view_of : Data → Result Query LineFault
+abbrev pub view_of : Data → Result Query LineFault
 view_of d = given BadShape (small_at (codes "q") d) (λ q. Ok (View q))
 
-unfoldable pub frontier_of : Data → Result Query LineFault
+abbrev pub frontier_of : Data → Result Query LineFault
 frontier_of d = given BadShape (small_at (codes "q") d) (λ q. Ok (Frontier q))
 
 unfoldable pub passed_of : Dataflow → Data → Result Query LineFault
@@ -67,10 +68,10 @@ changes_of g d =
     after (point_there g d) (λ point.
     Ok (Changes (record { q = q; point = point; lo = lo; hi = hi }))))))
 
-unfoldable pub kept_step_of : Data → Result Query LineFault
+abbrev pub kept_step_of : Data → Result Query LineFault
 kept_step_of d = given BadShape (whole_at (codes "to") d) (λ to. Ok (Step to))
 
-unfoldable pub effect_of : Data → Result Query LineFault
+abbrev pub effect_of : Data → Result Query LineFault
 effect_of d = given BadShape (whole_at (codes "to") d) (λ to. Ok (Effect to))
 
 unfoldable pub turns_of : Version → Dataflow → Data → Result Query LineFault
@@ -81,7 +82,7 @@ turns_of v g d =
     after (condition_of v g when) (λ condition.
     Ok (Turns (record { when = condition; lo = lo; hi = hi }))))))
 
-unfoldable pub frontier_at_of : Dataflow → Data → Result Query LineFault
+abbrev pub frontier_at_of : Dataflow → Data → Result Query LineFault
 frontier_at_of g d =
     given BadShape (small_at (codes "q") d) (λ q.
     given BadShape (text_at (codes "at") d) (λ name.
@@ -135,3 +136,34 @@ query_of v g form.FrontierAt d = frontier_at_of g d
 query_of v g form.WhyBefore d = why_before_of g d
 query_of v g form.Reach d = reach_of v g d
 query_of v g form.ReachWith d = reach_with_of v g d
+
+-- ---- from when memory is asked for
+
+-- the condition of a search, of turns, or of what can still happen
+abbrev pub WhenAsks : Version → Data → Type 0
+WhenAsks v d = IsSomeAnd (get (codes "when") d) (ConditionAsks v)
+
+-- {"at":name,"before":bool,"time":t,"why":q}
+unfoldable pub WhyBeforeAsks : Data → Type 0
+WhyBeforeAsks d = IsSomeAnd (boolean_at (codes "before") d) (λ strictly. PassedAsks d)
+
+-- {"at":name,"changes":q,"hi":n,"lo":n,"time":t}
+unfoldable pub ChangesAsks : Data → Type 0
+ChangesAsks d = IsSomeAnd (whole_at (codes "lo") d) (λ lo. IsSomeAnd (whole_at (codes "hi") d) (λ hi. PassedAsks d))
+
+abbrev pub QueryAsks : Version → QueryForm → Data → Type 0
+QueryAsks v form.Count d = HasNamed (codes "at") d
+QueryAsks v form.Before d = HasList (codes "from") d
+QueryAsks v form.Passed d = PassedAsks d
+QueryAsks v form.Why d = PassedAsks d
+QueryAsks v form.WhyBefore d = WhyBeforeAsks d
+QueryAsks v form.Changes d = ChangesAsks d
+QueryAsks v form.Search d =
+    IsSomeAnd (whole_at (codes "lo") d) (λ lo.
+    IsSomeAnd (whole_at (codes "hi") d) (λ hi.
+    IsSomeAnd (whole_at (codes "workers") d) (λ workers. WhenAsks v d)))
+QueryAsks v form.Turns d = IsSomeAnd (whole_at (codes "lo") d) (λ lo. IsSomeAnd (whole_at (codes "hi") d) (λ hi. WhenAsks v d))
+QueryAsks v form.Reach d = IsSomeAnd (whole_at (codes "limit") d) (λ limit. WhenAsks v d)
+QueryAsks v form.ReachWith d =
+    IsSomeAnd (whole_at (codes "limit") d) (λ limit. IsSomeAnd (allowed_at (codes "with") d) (λ allowed. WhenAsks v d))
+QueryAsks v other d = ⊥

@@ -1,5 +1,5 @@
 -- The step that a line asks for. The shapes of its values are tested first, then the names, then the times.
-use Rattle.std.specs.Prelude.{ℕ, Bool, false, if◌then◌else◌, Option, Some, None, option_map, option_and_then, codes, Result, Ok, Err}
+use Rattle.std.specs.Prelude.{ℕ, Bool, false, if◌then◌else◌, Option, Some, None, option_map, option_and_then, codes, Result, Ok, Err, IsSomeAnd}
 use Rattle.std.specs.declared.alloc.Global.{Global}
 use Rattle.serde_json.specs.Data.{Data}
 use Rattle.serde_json.specs.Find.{get}
@@ -11,7 +11,7 @@ use Rattle.nd_protocol.specs.declared.part.Part.TheVariants.{All, Points}
 use Rattle.nd_protocol.specs.declared.step.Next.{Next as Afterwards}
 use Rattle.nd_protocol.specs.declared.step.Next.TheVariants as token
 use Rattle.nd_graph.specs.Draft.{every}
-use Rattle.rewind_forms.specs.Forms.{given, after, numbers_at, named_at, points_at, values_at, alone}
+use Rattle.rewind_forms.specs.Forms.{given, after, numbers_at, named_at, points_at, values_at, alone, HasList, HasNamed}
 use Rattle.rewind_forms.specs.Places.{vertex_named, edge_named, time_of, placed, are_known, point_named}
 use Rattle.rewind_forms.specs.Sends.{send_of}
 use Rattle.rewind_forms.specs.Grammar.{form_of}
@@ -124,3 +124,23 @@ read_as g d (line.Query form) = Err BadShape
 -- the step that a value describes in a script of the last version, or the error
 unfoldable pub read_of : Dataflow → Data → Result (Step Global) LineFault
 read_of g d = given BadShape (form_of Sixth d) (read_as g d)
+
+-- ---- from when memory is asked for
+
+abbrev pub StepAsks : StepForm → Data → Type 0
+StepAsks form.Feed d = IsSomeAnd (small_at (codes "p") d) (λ p. IsSomeAnd (text_at (codes "vertex") d) (λ name. HasList (codes "values") d))
+StepAsks form.Take d = IsSomeAnd (small_at (codes "p") d) (λ p. IsSomeAnd (integer_at (codes "value") d) (λ value. HasNamed (codes "edge") d))
+StepAsks form.Keep d = IsSomeAnd (boolean_at (codes "keep") d) (λ keep. IsSomeAnd (small_at (codes "p") d) (λ p. HasNamed (codes "vertex") d))
+StepAsks form.Part d = IsSomeAnd (small_at (codes "p") d) (λ p. HasList (codes "part") d)
+StepAsks form.Broadcast d = ⊥
+StepAsks form.Receive d = ⊥
+StepAsks other d = IsSomeAnd (small_at (codes "p") d) (λ p. HasNamed (codes "vertex") d)
+
+-- the line is a step that asks for memory
+abbrev pub IsStepThatAsks : Data → Form → Type 0
+IsStepThatAsks d (line.Step form) = StepAsks form d
+IsStepThatAsks d other = ⊥
+
+-- reading the object of a step asks for memory
+unfoldable pub ObjectAsks : Data → Type 0
+ObjectAsks d = IsSomeAnd (form_of Sixth d) (IsStepThatAsks d)

@@ -1,8 +1,8 @@
 //! What a line's JSON value asks for.
 ghost use Rattle.std.specs.Prelude.{◌≡◌, Ok, IfOk, IfErr};
 ghost use Rattle.serde_json.specs.View.{view};
-ghost use Rattle.rewind_forms.specs.Forms.{FailsWith};
-ghost use Rattle.rewind_forms.specs.Asked.{asked_of as asked_in};
+ghost use Rattle.rewind_forms.specs.Forms.{FailsWith, OnlyIf};
+ghost use Rattle.rewind_forms.specs.Asked.{asked_of as asked_in, LineAsks};
 
 use crate::commands::command_of;
 use crate::queries::query_of;
@@ -25,7 +25,7 @@ pub enum Asked {
 /// Returns what the value asks for in a script of this version, for the graph.
 ///
 /// Returns `Memory` only if the allocation of a list of the line failed.
-#[tactic(auto, unfolding(crate::specs::Asked::asked_of))]
+#[tactic(auto, unfolding(crate::specs::Asked::asked_of, crate::specs::Asked::LineAsks))]
 pub fn asked_of(
     alloc: Global,
     version: Version,
@@ -34,6 +34,7 @@ pub fn asked_of(
 ) -> Result<Asked, LineFault>
     ensures ok { IfOk result (λ c. asked_in version graph.now (view value.now) ≡ Ok c) }
     ensures err { IfErr result (FailsWith (asked_in version graph.now (view value.now))) }
+    ensures memory { IfErr result (OnlyIf (LineAsks version graph.now (view value.now))) }
 {
     match Form::of(version, value).ok_or(LineFault::BadShape)? {
         Form::Step(form) => {

@@ -1,8 +1,8 @@
 //! What one atom of a condition says.
-ghost use Rattle.std.specs.Prelude.{◌≡◌, Ok, IfOk, IfErr};
+ghost use Rattle.std.specs.Prelude.{◌≡◌, Ok, IfOk, IfErr, codes};
 ghost use Rattle.serde_json.specs.View.{view};
-ghost use Rattle.rewind_forms.specs.Forms.{FailsWith};
-ghost use Rattle.rewind_forms.specs.Atoms.{passed_of as passed_in, count_of as count_in, queue_of as queue_in, sink_of as sink_in, first_atom_of as first_in, finished_of as finished_in, view_of as view_in, atom_of as atom_in};
+ghost use Rattle.rewind_forms.specs.Forms.{FailsWith, OnlyIf, HasNamed};
+ghost use Rattle.rewind_forms.specs.Atoms.{passed_of as passed_in, count_of as count_in, queue_of as queue_in, sink_of as sink_in, first_atom_of as first_in, finished_of as finished_in, view_of as view_in, atom_of as atom_in, AtomAsks, CountAsks, FirstAtomAsks, PassedAsks, ViewAsks};
 
 use crate::LineFault;
 use crate::places::vertex_named;
@@ -18,23 +18,24 @@ use std::alloc::Global;
 fn passed_of(alloc: Global, graph: &Graph, value: &Value) -> Result<Atom, LineFault>
     ensures ok { IfOk result (λ c. passed_in graph.now (view value.now) ≡ Ok c) }
     ensures err { IfErr result (FailsWith (passed_in graph.now (view value.now))) }
+    ensures memory { IfErr result (OnlyIf (PassedAsks (view value.now))) }
 {
     let q = small_at(value, "q").ok_or(LineFault::BadShape)?;
     let point = point_there(alloc, graph, value)?;
     Ok(Atom::Passed { q, point })
 }
 
-#[tactic(auto, unfolding(crate::specs::Atoms::count_of))]
+#[tactic(auto, unfolding(crate::specs::Atoms::count_of, crate::specs::Atoms::CountAsks))]
 fn count_of(alloc: Global, graph: &Graph, value: &Value) -> Result<Atom, LineFault>
     ensures ok { IfOk result (λ c. count_in graph.now (view value.now) ≡ Ok c) }
     ensures err { IfErr result (FailsWith (count_in graph.now (view value.now))) }
+    ensures memory { IfErr result (OnlyIf (CountAsks (view value.now))) }
 {
     let at_least = whole_at(value, "at_least").ok_or(LineFault::BadShape)?;
     let point = point_there(alloc, graph, value)?;
     Ok(Atom::Count { point, at_least })
 }
 
-#[tactic(auto, unfolding(crate::specs::Atoms::queue_of))]
 fn queue_of(value: &Value) -> Result<Atom, LineFault>
     ensures { result ≡ queue_in (view value.now) }
 {
@@ -44,7 +45,6 @@ fn queue_of(value: &Value) -> Result<Atom, LineFault>
     Ok(Atom::Queue { from, to, at_least })
 }
 
-#[tactic(auto, unfolding(crate::specs::Atoms::sink_of))]
 fn sink_of(graph: &Graph, value: &Value) -> Result<Atom, LineFault>
     ensures { result ≡ sink_in graph.now (view value.now) }
 {
@@ -63,15 +63,17 @@ fn sink_of(graph: &Graph, value: &Value) -> Result<Atom, LineFault>
 fn finished_of(alloc: Global, graph: &Graph, value: &Value) -> Result<Atom, LineFault>
     ensures ok { IfOk result (λ c. finished_in graph.now (view value.now) ≡ Ok c) }
     ensures err { IfErr result (FailsWith (finished_in graph.now (view value.now))) }
+    ensures memory { IfErr result (OnlyIf (HasNamed (codes "at") (view value.now))) }
 {
     let point = point_there(alloc, graph, value)?;
     Ok(Atom::Finished { point })
 }
 
-#[tactic(auto, unfolding(crate::specs::Atoms::view_of))]
+#[tactic(auto, unfolding(crate::specs::Atoms::view_of, crate::specs::Atoms::ViewAsks))]
 fn view_of(alloc: Global, graph: &Graph, value: &Value) -> Result<Atom, LineFault>
     ensures ok { IfOk result (λ c. view_in graph.now (view value.now) ≡ Ok c) }
     ensures err { IfErr result (FailsWith (view_in graph.now (view value.now))) }
+    ensures memory { IfErr result (OnlyIf (ViewAsks (view value.now))) }
 {
     let at_least = integer_at(value, "at_least").ok_or(LineFault::BadShape)?;
     let q = small_at(value, "q").ok_or(LineFault::BadShape)?;
@@ -80,10 +82,11 @@ fn view_of(alloc: Global, graph: &Graph, value: &Value) -> Result<Atom, LineFaul
 }
 
 /// Reads the atom that the value describes, for the graph; only the kinds that every version has.
-#[tactic(auto, unfolding(crate::specs::Atoms::first_atom_of))]
+#[tactic(auto, unfolding(crate::specs::Atoms::first_atom_of, crate::specs::Atoms::FirstAtomAsks))]
 pub fn first_atom_of(alloc: Global, graph: &Graph, value: &Value) -> Result<Atom, LineFault>
     ensures ok { IfOk result (λ c. first_in graph.now (view value.now) ≡ Ok c) }
     ensures err { IfErr result (FailsWith (first_in graph.now (view value.now))) }
+    ensures memory { IfErr result (OnlyIf (FirstAtomAsks (view value.now))) }
 {
     if let Some(shown) = inner(value, "passed", &["at", "q", "time"]) {
         passed_of(alloc, graph, shown)
@@ -99,10 +102,11 @@ pub fn first_atom_of(alloc: Global, graph: &Graph, value: &Value) -> Result<Atom
 }
 
 /// Reads the atom that the value describes, of any kind, for the graph.
-#[tactic(auto, unfolding(crate::specs::Atoms::atom_of))]
+#[tactic(auto, unfolding(crate::specs::Atoms::atom_of, crate::specs::Atoms::AtomAsks))]
 pub fn atom_of(alloc: Global, graph: &Graph, value: &Value) -> Result<Atom, LineFault>
     ensures ok { IfOk result (λ c. atom_in graph.now (view value.now) ≡ Ok c) }
     ensures err { IfErr result (FailsWith (atom_in graph.now (view value.now))) }
+    ensures memory { IfErr result (OnlyIf (AtomAsks (view value.now))) }
 {
     if let Some(shown) = inner(value, "finished", &["at", "time"]) {
         finished_of(alloc, graph, shown)

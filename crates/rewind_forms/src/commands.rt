@@ -1,8 +1,8 @@
 //! The command other than a step that a line asks for.
 ghost use Rattle.std.specs.Prelude.{◌≡◌, Ok, IfOk, IfErr};
 ghost use Rattle.serde_json.specs.View.{view};
-ghost use Rattle.rewind_forms.specs.Forms.{FailsWith};
-ghost use Rattle.rewind_forms.specs.Commands.{jump_of as jump_in, run_of as run_in, run_only_of as run_only_in, run_by_seed_of as run_by_seed_in, run_only_by_seed_of as run_only_by_seed_in, set_of as set_in, clear_of as clear_in, command_of as command_in};
+ghost use Rattle.rewind_forms.specs.Forms.{FailsWith, OnlyIf};
+ghost use Rattle.rewind_forms.specs.Commands.{jump_of as jump_in, run_of as run_in, run_only_of as run_only_in, run_by_seed_of as run_by_seed_in, run_only_by_seed_of as run_only_by_seed_in, set_of as set_in, clear_of as clear_in, command_of as command_in, BreakAsks, CommandAsks, RunAsks, RunBySeedAsks};
 
 use crate::conditions::condition_of;
 use crate::numbers::processors_at;
@@ -14,7 +14,6 @@ use nd_timeline::Command;
 use serde_json::Value;
 use std::alloc::Global;
 
-#[tactic(auto, unfolding(crate::specs::Commands::jump_of))]
 fn jump_of(value: &Value) -> Result<Command, LineFault>
     ensures { result ≡ jump_in (view value.now) }
 {
@@ -22,7 +21,6 @@ fn jump_of(value: &Value) -> Result<Command, LineFault>
     Ok(Command::Jump(to))
 }
 
-#[tactic(auto, unfolding(crate::specs::Commands::run_of))]
 fn run_of(value: &Value) -> Result<Command, LineFault>
     ensures { result ≡ run_in (view value.now) }
 {
@@ -35,10 +33,11 @@ fn run_of(value: &Value) -> Result<Command, LineFault>
 }
 
 // Returns a run of some processors.
-#[tactic(auto, unfolding(crate::specs::Commands::run_only_of))]
+#[tactic(auto, unfolding(crate::specs::Commands::run_only_of, crate::specs::Commands::RunAsks))]
 fn run_only_of(alloc: Global, value: &Value) -> Result<Command, LineFault>
     ensures ok { IfOk result (λ c. run_only_in (view value.now) ≡ Ok c) }
     ensures err { IfErr result (FailsWith (run_only_in (view value.now))) }
+    ensures memory { IfErr result (OnlyIf (RunAsks (view value.now))) }
 {
     let limit = whole_at(value, "limit").ok_or(LineFault::BadShape)?;
     let only = processors_at(alloc, value, "only")?.ok_or(LineFault::BadShape)?;
@@ -50,7 +49,6 @@ fn run_only_of(alloc: Global, value: &Value) -> Result<Command, LineFault>
 }
 
 // Returns a run that chooses by a seed.
-#[tactic(auto, unfolding(crate::specs::Commands::run_by_seed_of))]
 fn run_by_seed_of(value: &Value) -> Result<Command, LineFault>
     ensures { result ≡ run_by_seed_in (view value.now) }
 {
@@ -64,10 +62,11 @@ fn run_by_seed_of(value: &Value) -> Result<Command, LineFault>
 }
 
 // Returns a run of some processors that chooses by a seed.
-#[tactic(auto, unfolding(crate::specs::Commands::run_only_by_seed_of))]
+#[tactic(auto, unfolding(crate::specs::Commands::run_only_by_seed_of, crate::specs::Commands::RunBySeedAsks))]
 fn run_only_by_seed_of(alloc: Global, value: &Value) -> Result<Command, LineFault>
     ensures ok { IfOk result (λ c. run_only_by_seed_in (view value.now) ≡ Ok c) }
     ensures err { IfErr result (FailsWith (run_only_by_seed_in (view value.now))) }
+    ensures memory { IfErr result (OnlyIf (RunBySeedAsks (view value.now))) }
 {
     let limit = whole_at(value, "limit").ok_or(LineFault::BadShape)?;
     let seed = whole_at(value, "seed").ok_or(LineFault::BadShape)?;
@@ -79,7 +78,7 @@ fn run_only_by_seed_of(alloc: Global, value: &Value) -> Result<Command, LineFaul
     })
 }
 
-#[tactic(auto, unfolding(crate::specs::Commands::set_of))]
+#[tactic(auto, unfolding(crate::specs::Commands::set_of, crate::specs::Commands::BreakAsks))]
 fn set_of(
     alloc: Global,
     version: Version,
@@ -88,6 +87,7 @@ fn set_of(
 ) -> Result<Command, LineFault>
     ensures ok { IfOk result (λ c. set_in version graph.now (view value.now) ≡ Ok c) }
     ensures err { IfErr result (FailsWith (set_in version graph.now (view value.now))) }
+    ensures memory { IfErr result (OnlyIf (BreakAsks version graph.now (view value.now))) }
 {
     let when = value.get("when").ok_or(LineFault::BadShape)?;
     let condition = condition_of(alloc, version, graph, when)?;
@@ -95,7 +95,6 @@ fn set_of(
     Ok(Command::SetBreak(boxed))
 }
 
-#[tactic(auto, unfolding(crate::specs::Commands::clear_of))]
 fn clear_of(value: &Value) -> Result<Command, LineFault>
     ensures { result ≡ clear_in (view value.now) }
 {
@@ -113,6 +112,7 @@ pub fn command_of(
 ) -> Result<Command, LineFault>
     ensures ok { IfOk result (λ c. command_in version graph.now form (view value.now) ≡ Ok c) }
     ensures err { IfErr result (FailsWith (command_in version graph.now form (view value.now))) }
+    ensures memory { IfErr result (OnlyIf (CommandAsks version graph.now form (view value.now))) }
 {
     match form {
         CommandForm::Back => Ok(Command::Back),

@@ -1,9 +1,9 @@
 //! The condition that a line names.
-ghost use Rattle.std.specs.Prelude.{◌≡◌, ◌<◌, ◌≤◌, Ok, IfOk, IfErr, map, length};
+ghost use Rattle.std.specs.Prelude.{◌≡◌, ◌<◌, ◌≤◌, Ok, IfOk, IfErr, map, length, Any};
 ghost use Rattle.serde_json.specs.View.{view};
 ghost use Rattle.nd_time.specs.Limits.{max_literals};
-ghost use Rattle.rewind_forms.specs.Forms.{FailsWith};
-ghost use Rattle.rewind_forms.specs.Conditions.{literal_of as literal_in, lesser as lesser_in, literals_of as literals_in, several_of as several_in, combined_of as combined_in, condition_of as condition_in};
+ghost use Rattle.rewind_forms.specs.Forms.{FailsWith, OnlyIf};
+ghost use Rattle.rewind_forms.specs.Conditions.{literal_of as literal_in, lesser as lesser_in, literals_of as literals_in, several_of as several_in, combined_of as combined_in, condition_of as condition_in, CombinedAsks, ConditionAsks, LiteralAsks, SeveralAsk};
 ghost use Rattle.rewind_forms.specs.Conditions.{literals_read, with_literal, with_fault, HasRoom, IsOf, MakeUp};
 
 use crate::atoms::{atom_of, first_atom_of};
@@ -17,10 +17,11 @@ use serde_json::Value;
 use std::alloc::Global;
 
 // Returns the literal that the value describes.
-#[tactic(auto, unfolding(crate::specs::Conditions::literal_of))]
+#[tactic(auto, unfolding(crate::specs::Conditions::literal_of, crate::specs::Conditions::LiteralAsks))]
 fn literal_of(alloc: Global, graph: &Graph, value: &Value) -> Result<Literal, LineFault>
     ensures ok { IfOk result (λ c. literal_in graph.now (view value.now) ≡ Ok c) }
     ensures err { IfErr result (FailsWith (literal_in graph.now (view value.now))) }
+    ensures memory { IfErr result (OnlyIf (LiteralAsks (view value.now))) }
 {
     if let Some(shown) = alone(value, "not") {
         let atom = atom_of(alloc, graph, shown)?;
@@ -83,6 +84,7 @@ fn literals_of(
     requires few { length items.now ≤ max_literals }
     ensures ok { IfOk result (MakeUp quantifier (literals_in graph.now (map view items.now))) }
     ensures err { IfErr result (FailsWith (literals_in graph.now (map view items.now))) }
+    ensures memory { IfErr result (OnlyIf (Any LiteralAsks (map view items.now))) }
 {
     let mut read: Read = Ok(None);
     for item in items {
@@ -99,7 +101,7 @@ fn literals_of(
 }
 
 // Returns the condition of all or any of the literals in the list.
-#[tactic(auto, unfolding(crate::specs::Conditions::several_of))]
+#[tactic(auto, unfolding(crate::specs::Conditions::several_of, crate::specs::Conditions::SeveralAsk))]
 fn several_of(
     alloc: Global,
     graph: &Graph,
@@ -108,6 +110,7 @@ fn several_of(
 ) -> Result<Condition, LineFault>
     ensures ok { IfOk result (λ c. several_in graph.now quantifier (view value.now) ≡ Ok c) }
     ensures err { IfErr result (FailsWith (several_in graph.now quantifier (view value.now))) }
+    ensures memory { IfErr result (OnlyIf (SeveralAsk (view value.now))) }
 {
     let items = list(value).ok_or(LineFault::BadShape)?;
     if items.is_empty() || items.len() > MAX_LITERALS {
@@ -117,10 +120,11 @@ fn several_of(
 }
 
 // Returns the condition that the value describes: a literal, or all or any of several.
-#[tactic(auto, unfolding(crate::specs::Conditions::combined_of))]
+#[tactic(auto, unfolding(crate::specs::Conditions::combined_of, crate::specs::Conditions::CombinedAsks))]
 fn combined_of(alloc: Global, graph: &Graph, value: &Value) -> Result<Condition, LineFault>
     ensures ok { IfOk result (λ c. combined_in graph.now (view value.now) ≡ Ok c) }
     ensures err { IfErr result (FailsWith (combined_in graph.now (view value.now))) }
+    ensures memory { IfErr result (OnlyIf (CombinedAsks (view value.now))) }
 {
     if let Some(shown) = alone(value, "all") {
         several_of(alloc, graph, Quantifier::All, shown)
@@ -136,7 +140,7 @@ fn combined_of(alloc: Global, graph: &Graph, value: &Value) -> Result<Condition,
 ///
 /// `BadShape` comes before `UnknownName`, and `UnknownName` before `BadTime`, whichever literals they are in. Returns
 /// `Memory` only if the allocation of a list of the condition failed.
-#[tactic(auto, unfolding(crate::specs::Conditions::condition_of))]
+#[tactic(auto, unfolding(crate::specs::Conditions::condition_of, crate::specs::Conditions::ConditionAsks))]
 pub fn condition_of(
     alloc: Global,
     version: Version,
@@ -145,6 +149,7 @@ pub fn condition_of(
 ) -> Result<Condition, LineFault>
     ensures ok { IfOk result (λ c. condition_in version graph.now (view value.now) ≡ Ok c) }
     ensures err { IfErr result (FailsWith (condition_in version graph.now (view value.now))) }
+    ensures memory { IfErr result (OnlyIf (ConditionAsks version (view value.now))) }
 {
     if version.includes(Version::Fourth) {
         return combined_of(alloc, graph, value);

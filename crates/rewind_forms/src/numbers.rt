@@ -3,7 +3,7 @@ ghost use Rattle.std.specs.Prelude.{◌≡◌, map, option_map, IfOk};
 ghost use Rattle.serde_json.specs.View.{view};
 ghost use Rattle.nd_json.specs.Forms.{small as small_in, integer as integer_in};
 ghost use Rattle.nd_graph.specs.Draft.{every};
-ghost use Rattle.rewind_forms.specs.Forms.{numbers_of as numbers_from, numbers_at as numbers_in, values_at as values_in, processors_at as processors_in};
+ghost use Rattle.rewind_forms.specs.Forms.{numbers_of as numbers_from, numbers_at as numbers_in, values_at as values_in, processors_at as processors_in, FindsIf, HasList};
 
 use nd_json::{integer, list_at, small};
 use nd_protocol::{Processors, Values};
@@ -50,9 +50,11 @@ pub fn numbers_of(alloc: Global, items: &[Value]) -> Result<Option<Vec<u32>>, Al
 }
 
 /// Returns the numbers of the time at the key.
-#[tactic(auto, unfolding(crate::specs::Forms::numbers_at))]
+#[tactic(auto, unfolding(crate::specs::Forms::numbers_at, crate::specs::Forms::HasList))]
 pub fn numbers_at(alloc: Global, value: &Value, key: &str) -> Result<Option<Vec<u32>>, AllocError>
-    ensures { IfOk result (λ o. option_map (λ v. v.items) o ≡ numbers_in key.now (view value.now)) }
+    ensures ok { IfOk result (λ o.
+        option_map (λ v. v.items) o ≡ numbers_in key.now (view value.now)) }
+    ensures memory { FindsIf (HasList key.now (view value.now)) result }
 {
     match list_at(value, key) {
         Some(items) => numbers_of(alloc, items),
@@ -61,9 +63,10 @@ pub fn numbers_at(alloc: Global, value: &Value, key: &str) -> Result<Option<Vec<
 }
 
 /// Returns the values in the list at the key.
-#[tactic(auto, unfolding(crate::specs::Forms::values_at))]
+#[tactic(auto, unfolding(crate::specs::Forms::values_at, crate::specs::Forms::HasList))]
 pub fn values_at(alloc: Global, value: &Value, key: &str) -> Result<Option<Values>, AllocError>
-    ensures { IfOk result (λ o. o ≡ values_in key.now (view value.now)) }
+    ensures ok { IfOk result (λ o. o ≡ values_in key.now (view value.now)) }
+    ensures memory { FindsIf (HasList key.now (view value.now)) result }
 {
     match list_at(value, key) {
         Some(items) => integers(alloc, items),
@@ -87,13 +90,14 @@ fn processors(alloc: Global, items: &[Value]) -> Result<Option<Processors>, Allo
 
 /// Returns the processors in the list at the key: at least one, and at most as many as a cluster
 /// may have.
-#[tactic(auto, unfolding(crate::specs::Forms::processors_at))]
+#[tactic(auto, unfolding(crate::specs::Forms::processors_at, crate::specs::Forms::HasList))]
 pub fn processors_at(
     alloc: Global,
     value: &Value,
     key: &str,
 ) -> Result<Option<Processors>, AllocError>
-    ensures { IfOk result (λ o. o ≡ processors_in key.now (view value.now)) }
+    ensures ok { IfOk result (λ o. o ≡ processors_in key.now (view value.now)) }
+    ensures memory { FindsIf (HasList key.now (view value.now)) result }
 {
     let Some(items) = list_at(value, key) else {
         return Ok(None);

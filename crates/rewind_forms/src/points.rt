@@ -1,8 +1,8 @@
 //! Pointstamps among JSON values: by their names and numbers first, and then by their locations and times.
-ghost use Rattle.std.specs.Prelude.{◌≡◌, map, option_map, Ok, IfOk, IfErr};
+ghost use Rattle.std.specs.Prelude.{◌≡◌, map, option_map, Ok, IfOk, IfErr, codes};
 ghost use Rattle.serde_json.specs.View.{view};
 ghost use Rattle.nd_graph.specs.Draft.{every};
-ghost use Rattle.rewind_forms.specs.Forms.{FailsWith, name_and_numbers, named_time as named_time_in, point_of as point_in, point_at as point_at_in, listed_point as listed_in, points_at as points_in, named_at as named_at_in};
+ghost use Rattle.rewind_forms.specs.Forms.{FailsWith, name_and_numbers, named_time as named_time_in, point_of as point_in, point_at as point_at_in, listed_point as listed_in, points_at as points_in, named_at as named_at_in, OnlyIf, FindsIf, HasList, HasNamed};
 ghost use Rattle.rewind_forms.specs.Places.{are_known as known_in, point_named as named_in, point_there as there_in};
 
 use crate::LineFault;
@@ -45,14 +45,15 @@ fn named_time<'v>(
 }
 
 /// Returns the name at the key, and the numbers of the time at the key `time`.
-#[tactic(auto, unfolding(crate::specs::Forms::named_at))]
+#[tactic(auto, unfolding(crate::specs::Forms::named_at, crate::specs::Forms::HasNamed))]
 pub fn named_at<'v>(
     alloc: Global,
     value: &'v Value,
     key: &str,
 ) -> Result<Option<NamedTime<'v>>, AllocError>
-    ensures { IfOk result (λ o. option_map name_and_numbers o
+    ensures ok { IfOk result (λ o. option_map name_and_numbers o
         ≡ named_at_in key.now (view value.now)) }
+    ensures memory { FindsIf (HasNamed key.now (view value.now)) result }
 {
     let Some(name) = text_at(value, key) else {
         return Ok(None);
@@ -75,14 +76,15 @@ fn point_of<'v>(alloc: Global, items: &'v [Value]) -> Result<Option<NamedTime<'v
 }
 
 /// Returns the pointstamp at the key, by its name and its numbers.
-#[tactic(auto, unfolding(crate::specs::Forms::point_at))]
+#[tactic(auto, unfolding(crate::specs::Forms::point_at, crate::specs::Forms::HasList))]
 pub fn point_at<'v>(
     alloc: Global,
     value: &'v Value,
     key: &str,
 ) -> Result<Option<NamedTime<'v>>, AllocError>
-    ensures { IfOk result (λ o. option_map name_and_numbers o
+    ensures ok { IfOk result (λ o. option_map name_and_numbers o
         ≡ point_at_in key.now (view value.now)) }
+    ensures memory { FindsIf (HasList key.now (view value.now)) result }
 {
     match list_at(value, key) {
         Some(items) => point_of(alloc, items),
@@ -120,14 +122,15 @@ fn points_of<'v>(
 }
 
 /// Returns the pointstamps in the list at the key, by their names and numbers.
-#[tactic(auto, unfolding(crate::specs::Forms::points_at))]
+#[tactic(auto, unfolding(crate::specs::Forms::points_at, crate::specs::Forms::HasList))]
 pub fn points_at<'v>(
     alloc: Global,
     value: &'v Value,
     key: &str,
 ) -> Result<Option<Vec<NamedTime<'v>>>, AllocError>
-    ensures { IfOk result (λ o. option_map (λ v. map name_and_numbers v.items) o
+    ensures ok { IfOk result (λ o. option_map (λ v. map name_and_numbers v.items) o
         ≡ points_in key.now (view value.now)) }
+    ensures memory { FindsIf (HasList key.now (view value.now)) result }
 {
     match list_at(value, key) {
         Some(items) => points_of(alloc, items),
@@ -162,6 +165,7 @@ fn point_named(graph: &Graph, name: &str, numbers: &[u32]) -> Option<Pointstamp>
 pub fn point_there(alloc: Global, graph: &Graph, value: &Value) -> Result<Pointstamp, LineFault>
     ensures ok { IfOk result (λ c. there_in graph.now (view value.now) ≡ Ok c) }
     ensures err { IfErr result (FailsWith (there_in graph.now (view value.now))) }
+    ensures memory { IfErr result (OnlyIf (HasNamed (codes "at") (view value.now))) }
 {
     let named = named_at(alloc, value, "at")?.ok_or(LineFault::BadShape)?;
     let location = location_named(graph, named.name);

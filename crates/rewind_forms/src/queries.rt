@@ -1,10 +1,12 @@
 //! Queries: lines that ask for information.
-ghost use Rattle.std.specs.Prelude.{◌≡◌, Ok, IfOk, IfErr};
+ghost use Rattle.std.specs.Prelude.{◌≡◌, Ok, IfOk, IfErr, codes};
 ghost use Rattle.serde_json.specs.View.{view};
-ghost use Rattle.rewind_forms.specs.Forms.{FailsWith};
-ghost use Rattle.rewind_forms.specs.Queries.{count_of as count_in, before_of as before_in, view_of as view_in, frontier_of as frontier_in, passed_of as passed_in, search_of as search_in, query_of as query_in};
+ghost use Rattle.rewind_forms.specs.Forms.{FailsWith, OnlyIf, HasList, HasNamed};
+ghost use Rattle.rewind_forms.specs.Atoms.{PassedAsks};
+ghost use Rattle.rewind_forms.specs.Queries.{count_of as count_in, before_of as before_in, view_of as view_in, frontier_of as frontier_in, passed_of as passed_in, search_of as search_in, query_of as query_in, ChangesAsks, QueryAsks, WhyBeforeAsks};
 ghost use Rattle.rewind_forms.specs.Queries.{why_of as why_in, changes_of as changes_in, kept_step_of as kept_step_in};
 ghost use Rattle.rewind_forms.specs.Queries.{effect_of as effect_in, turns_of as turns_in, frontier_at_of as frontier_at_in, why_before_of as why_before_in, extent_of as extent_in, reach_of as reach_in, reach_with_of as reach_with_in};
+ghost use Rattle.rewind_forms.specs.declared.form.QueryForm.TheVariants as kind;
 
 use crate::allowed::{NOTHING, allowed_at};
 use crate::conditions::condition_of;
@@ -95,6 +97,7 @@ pub enum Query {
 fn count_of(alloc: Global, graph: &Graph, value: &Value) -> Result<Query, LineFault>
     ensures ok { IfOk result (λ c. count_in graph.now (view value.now) ≡ Ok c) }
     ensures err { IfErr result (FailsWith (count_in graph.now (view value.now))) }
+    ensures memory { IfErr result (OnlyIf (HasNamed (codes "at") (view value.now))) }
 {
     let point = point_there(alloc, graph, value)?;
     Ok(Query::Count(point))
@@ -104,6 +107,7 @@ fn count_of(alloc: Global, graph: &Graph, value: &Value) -> Result<Query, LineFa
 fn before_of(alloc: Global, graph: &Graph, value: &Value) -> Result<Query, LineFault>
     ensures ok { IfOk result (λ c. before_in graph.now (view value.now) ≡ Ok c) }
     ensures err { IfErr result (FailsWith (before_in graph.now (view value.now))) }
+    ensures memory { IfErr result (OnlyIf (HasList (codes "from") (view value.now))) }
 {
     let from = point_at(alloc, value, "from")?.ok_or(LineFault::BadShape)?;
     let to = point_at(alloc, value, "to")?.ok_or(LineFault::BadShape)?;
@@ -123,7 +127,6 @@ fn before_of(alloc: Global, graph: &Graph, value: &Value) -> Result<Query, LineF
     ))
 }
 
-#[tactic(auto, unfolding(crate::specs::Queries::view_of))]
 fn view_of(value: &Value) -> Result<Query, LineFault>
     ensures { result ≡ view_in (view value.now) }
 {
@@ -131,7 +134,6 @@ fn view_of(value: &Value) -> Result<Query, LineFault>
     Ok(Query::View(q))
 }
 
-#[tactic(auto, unfolding(crate::specs::Queries::frontier_of))]
 fn frontier_of(value: &Value) -> Result<Query, LineFault>
     ensures { result ≡ frontier_in (view value.now) }
 {
@@ -143,6 +145,7 @@ fn frontier_of(value: &Value) -> Result<Query, LineFault>
 fn passed_of(alloc: Global, graph: &Graph, value: &Value) -> Result<Query, LineFault>
     ensures ok { IfOk result (λ c. passed_in graph.now (view value.now) ≡ Ok c) }
     ensures err { IfErr result (FailsWith (passed_in graph.now (view value.now))) }
+    ensures memory { IfErr result (OnlyIf (PassedAsks (view value.now))) }
 {
     let q = small_at(value, "q").ok_or(LineFault::BadShape)?;
     let point = point_there(alloc, graph, value)?;
@@ -158,6 +161,7 @@ fn search_of(
 ) -> Result<Query, LineFault>
     ensures ok { IfOk result (λ c. search_in version graph.now (view value.now) ≡ Ok c) }
     ensures err { IfErr result (FailsWith (search_in version graph.now (view value.now))) }
+    ensures memory { IfErr result (OnlyIf (QueryAsks version kind.Search (view value.now))) }
 {
     let lo = whole_at(value, "lo").ok_or(LineFault::BadShape)?;
     let hi = whole_at(value, "hi").ok_or(LineFault::BadShape)?;
@@ -176,6 +180,7 @@ fn search_of(
 fn why_of(alloc: Global, graph: &Graph, value: &Value) -> Result<Query, LineFault>
     ensures ok { IfOk result (λ c. why_in graph.now (view value.now) ≡ Ok c) }
     ensures err { IfErr result (FailsWith (why_in graph.now (view value.now))) }
+    ensures memory { IfErr result (OnlyIf (PassedAsks (view value.now))) }
 {
     let q = small_at(value, "q").ok_or(LineFault::BadShape)?;
     let point = point_there(alloc, graph, value)?;
@@ -186,10 +191,11 @@ fn why_of(alloc: Global, graph: &Graph, value: &Value) -> Result<Query, LineFaul
     }))
 }
 
-#[tactic(auto, unfolding(crate::specs::Queries::changes_of))]
+#[tactic(auto, unfolding(crate::specs::Queries::changes_of, crate::specs::Queries::ChangesAsks))]
 fn changes_of(alloc: Global, graph: &Graph, value: &Value) -> Result<Query, LineFault>
     ensures ok { IfOk result (λ c. changes_in graph.now (view value.now) ≡ Ok c) }
     ensures err { IfErr result (FailsWith (changes_in graph.now (view value.now))) }
+    ensures memory { IfErr result (OnlyIf (ChangesAsks (view value.now))) }
 {
     let q = small_at(value, "q").ok_or(LineFault::BadShape)?;
     let lo = whole_at(value, "lo").ok_or(LineFault::BadShape)?;
@@ -198,7 +204,6 @@ fn changes_of(alloc: Global, graph: &Graph, value: &Value) -> Result<Query, Line
     Ok(Query::Changes(ViewChanges { q, point, lo, hi }))
 }
 
-#[tactic(auto, unfolding(crate::specs::Queries::kept_step_of))]
 fn kept_step_of(value: &Value) -> Result<Query, LineFault>
     ensures { result ≡ kept_step_in (view value.now) }
 {
@@ -206,7 +211,6 @@ fn kept_step_of(value: &Value) -> Result<Query, LineFault>
     Ok(Query::Step(to))
 }
 
-#[tactic(auto, unfolding(crate::specs::Queries::effect_of))]
 fn effect_of(value: &Value) -> Result<Query, LineFault>
     ensures { result ≡ effect_in (view value.now) }
 {
@@ -223,6 +227,7 @@ fn turns_of(
 ) -> Result<Query, LineFault>
     ensures ok { IfOk result (λ c. turns_in version graph.now (view value.now) ≡ Ok c) }
     ensures err { IfErr result (FailsWith (turns_in version graph.now (view value.now))) }
+    ensures memory { IfErr result (OnlyIf (QueryAsks version kind.Turns (view value.now))) }
 {
     let lo = whole_at(value, "lo").ok_or(LineFault::BadShape)?;
     let hi = whole_at(value, "hi").ok_or(LineFault::BadShape)?;
@@ -231,7 +236,6 @@ fn turns_of(
     Ok(Query::Turns(Turns { when, lo, hi }))
 }
 
-#[tactic(auto, unfolding(crate::specs::Queries::frontier_at_of))]
 fn frontier_at_of(graph: &Graph, value: &Value) -> Result<Query, LineFault>
     ensures { result ≡ frontier_at_in graph.now (view value.now) }
 {
@@ -252,10 +256,11 @@ fn extent_of(strictly: bool) -> Extent
     }
 }
 
-#[tactic(auto, unfolding(crate::specs::Queries::why_before_of))]
+#[tactic(auto, unfolding(crate::specs::Queries::why_before_of, crate::specs::Queries::WhyBeforeAsks))]
 fn why_before_of(alloc: Global, graph: &Graph, value: &Value) -> Result<Query, LineFault>
     ensures ok { IfOk result (λ c. why_before_in graph.now (view value.now) ≡ Ok c) }
     ensures err { IfErr result (FailsWith (why_before_in graph.now (view value.now))) }
+    ensures memory { IfErr result (OnlyIf (WhyBeforeAsks (view value.now))) }
 {
     let q = small_at(value, "q").ok_or(LineFault::BadShape)?;
     let strictly = boolean_at(value, "before").ok_or(LineFault::BadShape)?;
@@ -276,6 +281,7 @@ fn reach_of(
 ) -> Result<Query, LineFault>
     ensures ok { IfOk result (λ c. reach_in version graph.now (view value.now) ≡ Ok c) }
     ensures err { IfErr result (FailsWith (reach_in version graph.now (view value.now))) }
+    ensures memory { IfErr result (OnlyIf (QueryAsks version kind.Reach (view value.now))) }
 {
     let limit = whole_at(value, "limit").ok_or(LineFault::BadShape)?;
     let shown = value.get("when").ok_or(LineFault::BadShape)?;
@@ -296,6 +302,7 @@ fn reach_with_of(
 ) -> Result<Query, LineFault>
     ensures ok { IfOk result (λ c. reach_with_in version graph.now (view value.now) ≡ Ok c) }
     ensures err { IfErr result (FailsWith (reach_with_in version graph.now (view value.now))) }
+    ensures memory { IfErr result (OnlyIf (QueryAsks version kind.ReachWith (view value.now))) }
 {
     let limit = whole_at(value, "limit").ok_or(LineFault::BadShape)?;
     let shown = value.get("when").ok_or(LineFault::BadShape)?;
@@ -318,6 +325,7 @@ pub fn query_of(
 ) -> Result<Query, LineFault>
     ensures ok { IfOk result (λ c. query_in version graph.now form (view value.now) ≡ Ok c) }
     ensures err { IfErr result (FailsWith (query_in version graph.now form (view value.now))) }
+    ensures memory { IfErr result (OnlyIf (QueryAsks version form (view value.now))) }
 {
     match form {
         QueryForm::State => Ok(Query::State),

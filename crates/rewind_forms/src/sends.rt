@@ -2,8 +2,10 @@
 ghost use Rattle.std.specs.Prelude.{◌≡◌, ◌<◌, Ok, IfOk, IfErr, option_map};
 ghost use Rattle.serde_json.specs.View.{view};
 ghost use Rattle.nd_graph.specs.Graph.{location_count as count_of};
-ghost use Rattle.rewind_forms.specs.Forms.{FailsWith};
+ghost use Rattle.rewind_forms.specs.Forms.{FailsWith, OnlyIf, HasList};
+ghost use Rattle.rewind_forms.specs.Steps.{StepAsks};
 ghost use Rattle.rewind_forms.specs.Sends.{numbers_if as numbers_in, small_if as small_in, time_if as time_in, send_of as send_in};
+ghost use Rattle.rewind_forms.specs.declared.form.StepForm.TheVariants as kind;
 
 use crate::LineFault;
 use crate::numbers::{numbers_at, values_at};
@@ -22,6 +24,7 @@ fn numbers_if(alloc: Global, value: &Value, key: &str) -> Result<Option<Vec<u32>
     ensures ok { IfOk result (λ o.
         numbers_in key.now (view value.now) ≡ Ok (option_map (λ v. v.items) o)) }
     ensures err { IfErr result (FailsWith (numbers_in key.now (view value.now))) }
+    ensures memory { IfErr result (OnlyIf (HasList key.now (view value.now))) }
 {
     if value.get(key).is_none() {
         return Ok(None);
@@ -64,6 +67,7 @@ fn time_if(
 pub fn send_of(alloc: Global, graph: &Graph, value: &Value) -> Result<Step, LineFault>
     ensures ok { IfOk result (λ c. send_in graph.now (view value.now) ≡ Ok c) }
     ensures err { IfErr result (FailsWith (send_in graph.now (view value.now))) }
+    ensures memory { IfErr result (OnlyIf (StepAsks kind.Send (view value.now))) }
 {
     let p = small_at(value, "p").ok_or(LineFault::BadShape)?;
     let named = named_at(alloc, value, "vertex")?.ok_or(LineFault::BadShape)?;

@@ -1,9 +1,10 @@
 //! The step that a line asks for.
 ghost use Rattle.std.specs.Prelude.{◌≡◌, Ok, IfOk, IfErr};
 ghost use Rattle.serde_json.specs.View.{view};
-ghost use Rattle.rewind_forms.specs.Forms.{FailsWith};
-ghost use Rattle.rewind_forms.specs.Steps.{feed_of as feed_in, take_of as take_in, notice_of as notice_in, release_of as release_in, move_of as move_in, keep_of as keep_in, broadcast_of as broadcast_in, part_of as part_in, receive_of as receive_in, epoch_at as epoch_in, next_at as next_in, step_of as step_in, read_of as read_in};
+ghost use Rattle.rewind_forms.specs.Forms.{FailsWith, OnlyIf};
+ghost use Rattle.rewind_forms.specs.Steps.{feed_of as feed_in, take_of as take_in, notice_of as notice_in, release_of as release_in, move_of as move_in, keep_of as keep_in, broadcast_of as broadcast_in, part_of as part_in, receive_of as receive_in, epoch_at as epoch_in, next_at as next_in, step_of as step_in, read_of as read_in, ObjectAsks, StepAsks};
 ghost use Rattle.rewind_forms.specs.Fitting.{NamesFit};
+ghost use Rattle.rewind_forms.specs.declared.form.StepForm.TheVariants as kind;
 
 use crate::numbers::{numbers_at, values_at};
 use crate::places::{edge_named, placed, time_of, vertex_named};
@@ -50,6 +51,7 @@ fn next_at(version: Version, value: &Value) -> Option<Next>
 fn feed_of(alloc: Global, version: Version, graph: &Graph, value: &Value) -> Result<Step, LineFault>
     ensures ok { IfOk result (λ c. feed_in version graph.now (view value.now) ≡ Ok c) }
     ensures err { IfErr result (FailsWith (feed_in version graph.now (view value.now))) }
+    ensures memory { IfErr result (OnlyIf (StepAsks kind.Feed (view value.now))) }
 {
     let p = small_at(value, "p").ok_or(LineFault::BadShape)?;
     let name = text_at(value, "vertex").ok_or(LineFault::BadShape)?;
@@ -68,6 +70,7 @@ fn feed_of(alloc: Global, version: Version, graph: &Graph, value: &Value) -> Res
 fn take_of(alloc: Global, graph: &Graph, value: &Value) -> Result<Step, LineFault>
     ensures ok { IfOk result (λ c. take_in graph.now (view value.now) ≡ Ok c) }
     ensures err { IfErr result (FailsWith (take_in graph.now (view value.now))) }
+    ensures memory { IfErr result (OnlyIf (StepAsks kind.Take (view value.now))) }
 {
     let p = small_at(value, "p").ok_or(LineFault::BadShape)?;
     let number = integer_at(value, "value").ok_or(LineFault::BadShape)?;
@@ -86,6 +89,7 @@ fn take_of(alloc: Global, graph: &Graph, value: &Value) -> Result<Step, LineFaul
 fn notice_of(alloc: Global, graph: &Graph, value: &Value) -> Result<Step, LineFault>
     ensures ok { IfOk result (λ c. notice_in graph.now (view value.now) ≡ Ok c) }
     ensures err { IfErr result (FailsWith (notice_in graph.now (view value.now))) }
+    ensures memory { IfErr result (OnlyIf (StepAsks kind.Notice (view value.now))) }
 {
     let p = small_at(value, "p").ok_or(LineFault::BadShape)?;
     let named = named_at(alloc, value, "vertex")?.ok_or(LineFault::BadShape)?;
@@ -103,6 +107,7 @@ fn notice_of(alloc: Global, graph: &Graph, value: &Value) -> Result<Step, LineFa
 fn release_of(alloc: Global, graph: &Graph, value: &Value) -> Result<Step, LineFault>
     ensures ok { IfOk result (λ c. release_in graph.now (view value.now) ≡ Ok c) }
     ensures err { IfErr result (FailsWith (release_in graph.now (view value.now))) }
+    ensures memory { IfErr result (OnlyIf (StepAsks kind.Release (view value.now))) }
 {
     let p = small_at(value, "p").ok_or(LineFault::BadShape)?;
     let named = named_at(alloc, value, "vertex")?.ok_or(LineFault::BadShape)?;
@@ -127,6 +132,7 @@ fn release_of(alloc: Global, graph: &Graph, value: &Value) -> Result<Step, LineF
 fn move_of(alloc: Global, graph: &Graph, keep: bool, value: &Value) -> Result<Step, LineFault>
     ensures ok { IfOk result (λ c. move_in graph.now keep (view value.now) ≡ Ok c) }
     ensures err { IfErr result (FailsWith (move_in graph.now keep (view value.now))) }
+    ensures memory { IfErr result (OnlyIf (StepAsks kind.Move (view value.now))) }
 {
     let p = small_at(value, "p").ok_or(LineFault::BadShape)?;
     let named = named_at(alloc, value, "vertex")?.ok_or(LineFault::BadShape)?;
@@ -144,6 +150,7 @@ fn move_of(alloc: Global, graph: &Graph, keep: bool, value: &Value) -> Result<St
 fn keep_of(alloc: Global, graph: &Graph, value: &Value) -> Result<Step, LineFault>
     ensures ok { IfOk result (λ c. keep_in graph.now (view value.now) ≡ Ok c) }
     ensures err { IfErr result (FailsWith (keep_in graph.now (view value.now))) }
+    ensures memory { IfErr result (OnlyIf (StepAsks kind.Keep (view value.now))) }
 {
     let keep = boolean_at(value, "keep").ok_or(LineFault::BadShape)?;
     move_of(alloc, graph, keep, value)
@@ -163,6 +170,7 @@ fn broadcast_of(value: &Value) -> Result<Step, LineFault>
 fn part_of(alloc: Global, graph: &Graph, value: &Value) -> Result<Step, LineFault>
     ensures ok { IfOk result (λ c. part_in graph.now (view value.now) ≡ Ok c) }
     ensures err { IfErr result (FailsWith (part_in graph.now (view value.now))) }
+    ensures memory { IfErr result (OnlyIf (StepAsks kind.Part (view value.now))) }
 {
     let p = small_at(value, "p").ok_or(LineFault::BadShape)?;
     let named = points_at(alloc, value, "part")?.ok_or(LineFault::BadShape)?;
@@ -186,6 +194,7 @@ fn receive_of(value: &Value) -> Result<Step, LineFault>
 }
 
 /// Returns the step of this form that the value asks for in a script of this version, for the graph.
+#[tactic(auto, unfolding(crate::specs::Steps::broadcast_of, crate::specs::Steps::receive_of))]
 pub fn step_of(
     alloc: Global,
     version: Version,
@@ -195,6 +204,7 @@ pub fn step_of(
 ) -> Result<Step, LineFault>
     ensures ok { IfOk result (λ c. step_in version graph.now form (view value.now) ≡ Ok c) }
     ensures err { IfErr result (FailsWith (step_in version graph.now form (view value.now))) }
+    ensures memory { IfErr result (OnlyIf (StepAsks form (view value.now))) }
 {
     match form {
         StepForm::Feed => feed_of(alloc, version, graph, value),
@@ -214,11 +224,12 @@ pub fn step_of(
 /// applies: `BadShape` if it is not a step, `UnknownName`, `BadTime`.
 ///
 /// Returns `Memory` only if the allocation of a list of the step failed.
-#[tactic(auto, unfolding(crate::specs::Steps::read_of))]
+#[tactic(auto, unfolding(crate::specs::Steps::read_of, crate::specs::Steps::ObjectAsks))]
 pub fn read_step(alloc: Global, graph: &Graph, value: &Value) -> Result<Step, LineFault>
     ensures ok { IfOk result (λ x. read_in graph.now (view value.now) ≡ Ok x) }
     ensures fits { IfOk result (NamesFit graph.now) }
     ensures err { IfErr result (FailsWith (read_in graph.now (view value.now))) }
+    ensures memory { IfErr result (OnlyIf (ObjectAsks (view value.now))) }
 {
     match Form::of(Version::Sixth, value) {
         Some(Form::Step(form)) => step_of(alloc, Version::Sixth, graph, form, value),
