@@ -69,6 +69,17 @@
     (dap-rewind--asked "goto" :threadId (dap--debug-session-thread-id session)
                        :targetId (1+ position))))
 
+(defun dap-rewind-why (place)
+  "Say why the location PLACE is not finished: that at the cursor, or one that is typed."
+  (interactive
+   (list (or (thing-at-point 'symbol t) (read-string "Why is this location not finished? "))))
+  (dap-eval place))
+
+(defun dap-rewind-cancel ()
+  "End the question that is being answered."
+  (interactive)
+  (dap-rewind--asked "cancel"))
+
 (defun dap-rewind-break (condition)
   "Stop where CONDITION, as \"passed 0 out 0\", begins to hold.
 Without one, remove all conditions."
@@ -106,7 +117,7 @@ Say what came of the last one."
                    '(("n" . dap-next) ("p" . dap-rewind-back) ("c" . dap-continue)
                      ("r" . dap-rewind-reverse) ("g" . dap-rewind-go-to) ("e" . dap-step-out)
                      ("b" . dap-rewind-break) ("w" . dap-rewind-watch)
-                     ("y" . dap-eval-thing-at-point) (":" . dap-ui-repl)
+                     ("y" . dap-rewind-why) ("k" . dap-rewind-cancel) (":" . dap-ui-repl)
                      ("t" . dap-switch-thread) ("l" . dap-ui-locals) ("q" . dap-disconnect)))
       (define-key map key command))
     map)

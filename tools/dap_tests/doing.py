@@ -51,7 +51,7 @@ class Seen(testing.Case):
                 "kept by vertices": "total (0): sum 2"},
             "View": {"words (0)": "1, on the frontier", "words (1)": "1", "total (0)": "2"},
             "Unsent": {}, "On its way": {},
-            "Waiting": {notice: "10 NotYet: processor 0's view has words (0) strictly before total (0)"},
+            "Waiting": {notice: "processor 0's view has words (0) strictly before total (0) (10 NotYet)"},
         })  # fmt: skip
         waiting = client.body("scopes", frameId=1)["scopes"][-1]["variablesReference"]
         (found,) = client.opened(waiting)
@@ -71,7 +71,7 @@ class Seen(testing.Case):
         self.client.stop("goto", threadId=1, targetId=17)
         waiting = self.client.variables(2)["Waiting"]
         (said,) = [it for name, it in waiting.items() if "batch" in name]
-        self.holds("a hold", said.startswith("53 NotNotified"), said)
+        self.holds("a hold", said.endswith("until a release (53 NotNotified)"), said)
 
     def test_opaque_vertex(self):
         """The script stops at the send that is refused; the console sends on the other port."""
@@ -82,7 +82,7 @@ class Seen(testing.Case):
         self.holds("sends", sent in said, said)
         self.same("holds", client.variables(1)["Holds"]["capabilities"], "x (0)")
         waiting = client.variables(1)["Waiting"]["runs the notification of x (0)"]
-        self.holds("waits", waiting.endswith("x is opaque, so it is never notified"), waiting)
+        self.holds("waits", waiting.endswith("so it is never notified (10 NotYet)"), waiting)
 
     def test_many_variables(self):
         """A long list is shown in parts."""

@@ -21,7 +21,7 @@ tee "$0.asked" <&3 >"$0.pipe" &
 '{}' <"$0.pipe" | tee "$0.said"
 kill $!
 """
-NOT_YET = "10 NotYet: processor 0's view has words (0) strictly before total (0)"
+NOT_YET = "processor 0's view has words (0) strictly before total (0) (10 NotYet)"
 SEEN = f"""\
 stuck-program.jsonl line 7
 Holds
@@ -54,6 +54,10 @@ stuck-program.rewind line 25
 processor 0 does not know that out (0) is finished: it still counts 1 at total (0); nothing is held\
  there; not heard: an update of -1 by processor 1, first in its queue
 in truth out (0) is finished: no processor has anything at or before it
+cancelled
+processor 0 does not know that total (0) is finished: it still counts 1 at total (0); nothing is held\
+ there; not heard: an update of -1 by processor 1, first in its queue
+in truth total (0) is finished: no processor has anything at or before it
 stuck-program.rewind line 15
 stuck-program.rewind line 16
 stuck-program.rewind line 4
@@ -61,7 +65,7 @@ stuck-program.rewind line 4
 ASKED = (
     "initialize launch configurationDone exceptionInfo setFunctionBreakpoints setFunctionBreakpoints"
     " dataBreakpointInfo setDataBreakpoints setDataBreakpoints continue exceptionInfo continue continue"
-    " stepBack evaluate reverseContinue next goto disconnect".split()
+    " stepBack evaluate evaluate cancel evaluate reverseContinue next goto disconnect".split()
 )
 STOPPED = [
     f"stopped in 1, exception: {REFUSED.format(7)}",
@@ -89,6 +93,7 @@ def is_there():
 
 @unittest.skipUnless(is_there(), "there is no Emacs with dap-mode")
 class InEmacs(testing.Case):
+
     def setUp(self):
         room = tempfile.TemporaryDirectory(prefix="rewind-emacs-")
         self.addCleanup(room.cleanup)
@@ -113,7 +118,8 @@ class InEmacs(testing.Case):
         self.holds("drawn", {*DRAWN[1:]} <= {*asked}, asked)
         said = self.messages("said")
         answers = [it for it in said if it["type"] == "response"]
-        self.same("refused", [short(it) for it in answers if not it["success"]], [])
+        refused = [short(it) for it in answers if not it["success"]]
+        self.same("refused", refused, ["evaluate: cancelled"])
         self.same("answered", [it["command"] for it in answers], asked)
         self.same("stops", [short(it) for it in said if it.get("event") == "stopped"], STOPPED)
 

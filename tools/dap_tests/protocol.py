@@ -10,7 +10,7 @@ from rewind_tools import testing
 from rewind_tools.dap.adapter import WHY_NOT
 from rewind_tools.dap.framing import LARGEST
 from rewind_tools.dap.requests import ENDED, HANDLERS, LAUNCHED, NEW, READY, RUNNING, STOPPED
-from rewind_tools.testing import ROUND, SECONDS
+from rewind_tools.testing import ROUND, SECONDS, TOP, is_alive, programs_of
 
 FEED = '{"do":"feed","p":0,"vertex":"a","values":[1],"next":"next"}'
 # A talk: each request with the messages that follow, up to its response or to the stop after it.
@@ -277,10 +277,11 @@ class Ends(testing.Case):
     """What ends a session besides the editor's wish."""
 
     def judge_killed(self, client, after):
-        said = "the program ended by signal 9"
-        wanted = [f"stderr: {said}", "exited 1", "terminated"]
+        wanted = ["stderr: the program ended by signal 9", "exited 1", "terminated"]
         client.until("terminated")
-        self.same(f"killed {after}", client.said[-3:], wanted)
+        # where the kept steps are is said only if a quick program has executed some
+        said = [it for it in client.said if "the kept steps are in" not in it]
+        self.same(f"killed {after}", said[-3:], wanted)
         self.same(f"killed {after}: threads", client.ask("threads")["success"], False)
         self.holds(f"killed {after}: restarted", client.stop("restart").startswith("stopped"))
 
@@ -343,6 +344,53 @@ class Ends(testing.Case):
                 client.process.stdin.close()
                 self.same(f"the end, {runs}", client.status(), 0)
                 self.holds(f"no program, {runs}", not os.path.exists(f"/proc/{program}"))
+
+    def test_cancelled(self):
+        """A question that takes long ends at once: by 'cancel', 'pause' and whatever ends the session."""
+        path = f"{TOP}/examples/loop-by-lot.jsonl"
+        for how in ("cancel", "cancel all", "pause", "disconnect", "the end"):
+            with Client() as client:
+                client.launch(path, 1)
+                client.typed("run 3")
+                question = {"expression": "reach passed 0 z 0 limit 1000000", "context": "repl"}
+                number = client.send("evaluate", **question)
+                client.send("cancel", requestId=number + 99)
+                time.sleep(1)
+                programs, begun = programs_of(client.process.pid), time.monotonic()
+                self.same(f"{how}: not by another's cancel", len(programs), 2)
+                if how == "the end":
+                    client.process.stdin.close()
+                else:
+                    client.send(how.split()[0], **({"requestId": number} if how == "cancel" else {}))
+                while (message := client.next()) and message.get("request_seq") != number:
+                    pass
+                self.same(f"{how}: answer", short(message), "evaluate: cancelled")
+                self.holds(f"{how}: at once", time.monotonic() - begun < 2)
+                if how in ("disconnect", "the end"):
+                    self.same(f"{how}: status", client.status(), 0)
+                    self.same(f"{how}: no program", [*filter(is_alive, programs)], [])
+                    said = [it for it in client.said if "the kept steps are in" in it]
+                    self.same(f"{how}: the steps", len(said), 1)
+                else:
+                    self.same(f"{how}: then", client.answer("where"), "position 404 of 404")
+
+    def test_killed_adapter(self):
+        """An adapter that is killed leaves no program, and the next one says where the steps are."""
+        with Client() as client:
+            client.launch()
+            client.typed("jump 25")
+            client.typed("feed 1 words 7 next")
+            client.until("stopped")
+            programs = programs_of(client.process.pid)
+            client.process.kill()
+            client.process.wait()
+            self.same("no program", [*filter(is_alive, programs)], [])
+        with Client() as client:
+            client.launch()
+            (said,) = [it for it in client.said if "a session that was killed left steps" in it]
+            client.body("restart", arguments={"program": said.split()[-3], "processors": 2})
+            client.until("stopped")
+            self.same("the steps", client.answer("where"), "position 26 of 26")
 
     def test_no_program(self):
         with Client(REWIND_PROGRAM="/nowhere") as client:

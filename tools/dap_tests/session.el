@@ -37,9 +37,19 @@
     (wait-until (lambda () (> shown before)))
     (note-place)))
 
+(defun press-key (key)
+  "Press KEY after the prefix."
+  (call-interactively (key-binding (kbd (concat "C-c d " key)))))
+
 (defun press (key)
   "Press KEY after the prefix, and wait for the stop."
-  (stop-after (lambda () (call-interactively (key-binding (kbd (concat "C-c d " key)))))))
+  (stop-after (lambda () (press-key key))))
+
+(defun say-after (work)
+  "Do WORK, and wait for what is said of it."
+  (let ((before seen))
+    (funcall work)
+    (wait-until (lambda () (not (eq seen before))))))
 
 (defun note-variables ()
   "Keep the window of variables."
@@ -62,9 +72,15 @@
   (note-variables)
   (press "p")
   (with-current-buffer (window-buffer)
-    (let ((before seen))
-      (dap-eval "why 0 out 0")
-      (wait-until (lambda () (not (eq seen before))))))
+    (say-after (lambda () (dap-eval "why 0 out 0")))
+    (say-after (lambda ()
+                 (dap-eval "reach count out 0 99 feed limit 1000000")
+                 (sleep-for 1)
+                 (press-key "k")))
+    (goto-char (point-max))
+    (say-after (lambda ()
+                 (let ((unread-command-events (listify-key-sequence "total\r")))
+                   (press-key "y")))))
   (press "r")
   (press "n")
   (stop-after (lambda () (dap-rewind-go-to 3)))

@@ -6,13 +6,13 @@ import subprocess
 import tempfile
 import threading
 
-from rewind_tools.testing import SECONDS, TOOLS, TOP
+from rewind_tools.testing import SECONDS, TOOLS, TOP, programs_of
 
 STUCK = f"{TOP}/examples/stuck-program.jsonl"
 COMMAND = [f"{TOOLS}/dap"]
 REFUSED = (
-    "line {}, processor 0 runs the notification of total (0): refused, 10 NotYet: processor 0's view has"
-    " words (0) strictly before total (0)"
+    "line {}, processor 0 runs the notification of total (0): refused: processor 0's view has"
+    " words (0) strictly before total (0) (10 NotYet)"
 )
 
 
@@ -153,9 +153,7 @@ class Client:
 
     def program(self):
         """The number of the program's process."""
-        path = f"/proc/{self.process.pid}/task/{self.process.pid}/children"
-        with open(path, encoding="ascii") as it:
-            return int(it.read().split()[0])
+        return programs_of(self.process.pid)[0]
 
     def status(self):
         """How the adapter ended."""

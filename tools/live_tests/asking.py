@@ -202,8 +202,8 @@ class Arrows(unittest.TestCase):
         tell."""
         graph, _ = chain(2, 0, 0)
         session = Session(graph, ["--processors", "3"])
-        self.addCleanup(session.close)
         live = Live(session, "arrows")
+        self.addCleanup(live.close)
         for at in range(40):
             live.execute(lines_for([feed([at], p=at % 3), {"do": "broadcast", "p": at % 3}]))
         live.execute(lines_for([{"do": "run", "limit": 150}]))

@@ -1,5 +1,6 @@
 """The page as a person uses it in a browser, by clicks and by keys."""
 import json
+import os
 import re
 import signal
 import time
@@ -11,7 +12,7 @@ from live_tests.served import (
 )  # fmt: skip
 from live_tests.looking import picture
 from rewind_tools import runs
-from rewind_tools.testing import TOP
+from rewind_tools.testing import TOP, programs_of
 
 VALUES, FEED = "#feed input", "#feed button"
 LISTED = "return document.getElementById('candidates').getAttribute('aria-busy') === 'false'"
@@ -165,7 +166,7 @@ class Ways(unittest.TestCase):
             page.fill(values % 1, "1")
             page.fill(at % 1, "0")
             page.press("enter")
-            page.says("said", "56 TooEarly: (0) is not at or after (1)")
+            page.says("said", "(0) is not at or after (1), the time of the capability (56 TooEarly)")
             self.assertEqual(page.run("return document.querySelector(arguments[0]).value", values % 1), "1")
             page.click_text("#candidates form button", "release")
             page.at(5, "the release")
@@ -317,6 +318,18 @@ class Tabs(unittest.TestCase):
             self.assertLess(time.monotonic() - begun, 3)
             self.assertFalse(page.run("return document.getElementById('gone').hidden"))
 
+    def test_program_gone(self):
+        """That the program is gone is said at once, and where the steps are."""
+        with Served(around()) as live, Page(live) as page:
+            page.at(1, "the page")
+            page.press("n")
+            page.at(2, "a step")
+            os.kill(programs_of(live.process.pid)[0], signal.SIGKILL)
+            begun = time.monotonic()
+            page.says("gone", "the program is gone: it ended by signal 9; the kept steps are saved: ")
+            self.assertLess(time.monotonic() - begun, 3)
+            picture(page, "gone")
+
 
 @needs_browser
 class Going(unittest.TestCase):
@@ -363,6 +376,42 @@ class Going(unittest.TestCase):
             page.click(page.find("#cancel"))
             page.wait(lambda: page.run("return waiting === 0"), "the end of what waits")
             self.assertEqual((page.run(POSITION), live.asked("picture", {})["picture"]["at"]), ("11", 11))
+
+    def test_cancelled_question(self):
+        """A question that takes long is cancelled at once, and can be asked again; the page goes on."""
+        with Served(around()) as live, Page(live) as page:
+            page.click(page.find(".graph .vertex[data-place='5']"))
+            page.says("why", "does not know that z (0) is finished")
+            page.run("findFinish({ ...question(), limit: 1000000 })")
+            page.wait(lambda: page.run("return !by('busy').hidden"), "the busy sign")
+            picture(page, "asking")
+            begun = time.monotonic()
+            page.click(page.find("#cancel"))
+            page.says("said", "cancelled")
+            page.wait(lambda: page.run("return waiting === 0"), "the end of the question")
+            self.assertLess(time.monotonic() - begun, 3)
+            picture(page, "cancelled")
+            page.click_text("#why button", "How can this finish?")
+            page.says("why", "by no short list of steps")
+            page.press("left")
+            page.at(0, "a step back")
+
+    def test_where_it_holds(self):
+        """Where a condition holds among many steps is looked for meanwhile, with how far that is."""
+        with Served([*around(), '{"do":"run","limit":2500}']) as live, Page(live) as page:
+            page.click(page.find(".graph .vertex[data-place='5']"))
+            page.says("why", "does not know that z (0) is finished")
+            page.run(WATCH)
+            page.click_text("#when button", "show where it holds")
+            page.says("turns", "does not hold at the start, and that stays so")
+            page.wait(lambda: page.run("return waiting === 0"), "the end of the question")
+            self.assertNotIn("were looked at", page.run(TEXT, "turns"))
+            page.run("wantsTurns = false")
+            live.command({"do": "run", "limit": 2500})
+            page.at(5001, "more steps")
+            page.says("turns", "positions up to 2501 were looked at")
+            page.click_text("#when button", "show where it holds")
+            page.wait(lambda: "were looked at" not in page.run(TEXT, "turns"), "all positions")
 
     def test_run_in_pieces(self):
         """A run in pieces ends as one: idle, with all steps counted, or at a breakpoint."""

@@ -62,8 +62,8 @@ class InSight(unittest.TestCase):
         steps; a point is asked about and a condition is shown."""
         graph, lines = chain(2, feeds, 6)
         session = Counting(graph, ["--processors", "2"])
-        self.addCleanup(session.close)
         live = Live(session, "clicks")
+        self.addCleanup(live.close)
         live.execute(lines_for([*lines, {"do": "run", "limit": steps}]))
         why, when = {"q": 0, "at": "v1", "time": [0]}, {"passed": {"q": 0, "at": "v0", "time": [2]}}
         sight = {"why": why, "when": when}
@@ -99,8 +99,8 @@ class InSight(unittest.TestCase):
         """Looks at other parts of what is shown ask for the state once."""
         graph, lines = chain(2, 50, 6)
         session = Counting(graph, ["--processors", "2"])
-        self.addCleanup(session.close)
         live = Live(session, "looks")
+        self.addCleanup(live.close)
         live.execute(lines_for([*lines, {"do": "run", "limit": 40}]))
         live.answer("picture", {"sight": {}})
         session.lines = 0
@@ -116,8 +116,8 @@ class Jumps(unittest.TestCase):
         graph, lines = chain(1, 60, 40)
         for count, wanted in ((2, LONG_REACH), (60, SHORT_REACH)):
             session = Session(graph)
-            self.addCleanup(session.close)
             live = Live(session, "reach")
+            self.addCleanup(live.close)
             live.execute(lines_for(lines[:count]))
             self.assertEqual(live.answer("picture", {})["picture"]["reach"], wanted)
 

@@ -46,9 +46,11 @@ class Served:
         begun = time.monotonic()
         how = {"stdout": subprocess.PIPE, "stderr": subprocess.STDOUT, "text": True, "cwd": TOP}
         self.process = subprocess.Popen(self.started_by, **how)
-        self.said = [self.process.stdout.readline(), self.process.stdout.readline()]
+        self.said = [self.process.stdout.readline()]
+        while self.said[-1] and "http" not in self.said[-1]:
+            self.said.append(self.process.stdout.readline())
         self.seconds = time.monotonic() - begun
-        self.address = self.said[1].removeprefix("live: ").strip()
+        self.address = self.said[-1].removeprefix("live: ").strip()
         return self
 
     def __exit__(self, *fault):

@@ -1,17 +1,27 @@
 """What the server answers and refuses, and how long it stays."""
+import contextlib
 import http.client
 import json
 import os
+import re
 import signal
 import socket
 import subprocess
 import tempfile
+import threading
+import time
 import unittest
+from unittest import mock
 from urllib.parse import urlsplit
 
-from live_tests.served import TOOLS, Served, chain, of_class, stuck
-from rewind_tools import runs
-from rewind_tools.testing import TOP
+from live_tests.served import TOOLS, Served, around, chain, lines_for, of_class, stuck
+from rewind_tools import runs, tool
+from rewind_tools.live.server import Live
+from rewind_tools.session import Session
+from rewind_tools.testing import TOP, is_alive, programs_of
+
+# A question that finds no end, and how many states make it long.
+ASK, LONG = {"q": 0, "at": "z", "time": [0]}, {"limit": 1_000_000}
 
 
 def said_of(*words, **how):
@@ -167,8 +177,7 @@ class Staying(unittest.TestCase):
             if saves:
                 self.assertEqual(said, "")
                 continue
-            path = said.removeprefix("live: the kept steps are in ").strip()
-            self.addCleanup(os.unlink, path)
+            path = re.fullmatch("live: the kept steps are saved: tools/live (.*) --processors 2\n", said)[1]
             with open(path, "rb") as it:
                 ran = runs.run_script(it.read(), ["--processors", "2"])
             self.assertEqual(ran.entries[-1].reply["at"], 12)
@@ -191,7 +200,7 @@ class Staying(unittest.TestCase):
         for words, wanted in (
             (["/nowhere"], "live: /nowhere: No such file or directory"),
             (["/dev/null"], "live: /dev/null: there is no graph in it"),
-            ([graph], 'live: the graph is refused, 40 Shape: the key "edges" is missing: a list of edges'),
+            ([graph], 'live: the graph is refused: the key "edges" is missing: a list of edges (40 Shape)'),
         ):
             with self.subTest(words):
                 self.assertEqual(said_of(*words, "--no-browser"), (1, wanted))
@@ -205,6 +214,29 @@ class Staying(unittest.TestCase):
         self.assertEqual((status, said), (1, "live: write failed: No space left on device"))
 
 
+class Sources(unittest.TestCase):
+    def test_places(self):
+        """The steps of a saved run come with their places, until other steps take theirs."""
+        graph, lines = chain(1, 2, 1)
+        served = Served([json.dumps(graph), *map(json.dumps, lines)])
+        places = [{"script": at, "file": "w0", "line": at, "note": "it"} for at in range(2, len(lines) + 2)]
+        try:
+            with open(f"{served.path}.lines", "w", encoding="utf-8") as it:
+                it.write("".join(json.dumps(place, separators=(",", ":")) + "\n" for place in places))
+            with served as live:
+                shown = live.asked("picture", {"sight": {}})["picture"]
+                place = f" [w0, line {len(lines) + 1}; note: it]"
+                self.assertTrue(shown["effect"]["step"].endswith(place), shown["effect"])
+                self.assertTrue(shown["steps"]["items"][-1]["words"].endswith(place))
+                live.command({"do": "back"})
+                other = live.command(lines[-1])
+                self.assertNotIn("[", other["picture"]["steps"]["items"][-1]["words"])
+                again = live.asked("bring-back", {"revision": other["revision"], "sight": {}})["picture"]
+                self.assertEqual(again["steps"]["items"], shown["steps"]["items"])
+        finally:
+            os.unlink(f"{served.path}.lines")
+
+
 class Refusals(unittest.TestCase):
     def test_lines_that_are_refused(self):
         """Each line of the script that is refused is named with its reason."""
@@ -213,22 +245,87 @@ class Refusals(unittest.TestCase):
         with Served([*script, '{"do":"state"}']) as live:
             self.assertEqual(live.said[0], "live: 3 lines executed, 2 of them refused; 1 query left out\n")
             said = [live.process.stdout.readline() for _ in range(2)]
-            self.assertIn("line 2, execute the kept step after the cursor again: refused, 21 AtEnd", said[0])
+            self.assertIn("again: refused: no step is kept after the cursor (21 AtEnd)", said[0])
             self.assertIn("line 5, ", said[1])
             self.assertIn("31 BadShape", said[1])
 
 
 class Killed(unittest.TestCase):
+    """What ends a session from outside: no step is lost, and no program is left."""
+
+    def kept_in(self, said, wanted):
+        """The kept steps of the file that a text names."""
+        path = re.search(f"{wanted}: tools/live (.*) --processors 1\\b", said)
+        self.assertTrue(path, said)
+        with open(path[1], "rb") as it:
+            return runs.run_script(it.read()).entries[-1].reply["at"]
+
     def test_program_killed(self):
         """That the program was killed is said, and the server goes on to say so."""
-        with stuck() as live:
-            with open(f"/proc/{live.process.pid}/task/{live.process.pid}/children", encoding="utf-8") as it:
-                children = it.read().split()
-            for it in children:
-                os.kill(int(it), signal.SIGKILL)
-            for name in ("picture", "save"):
-                status, _, said = live.post(name, {})
-                self.assertTrue(status == 503 and "signal 9" in said, said)
+        with Served(around()) as live:
+            live.command({"do": "run", "limit": 5})
+            for it in programs_of(live.process.pid):
+                os.kill(it, signal.SIGKILL)
+            said = live.process.stdout.readline()
+            self.assertIn("live: the program ended by signal 9; ", said)
+            self.assertEqual(self.kept_in(said, "the kept steps are saved"), 6)
+            for name in ("picture", "save", "finish"):
+                status, _, answer = live.post(name, ASK)
+                self.assertEqual((status, json.loads(answer)["error"]), (503, said.strip()[len("live: ") :]))
+
+    def test_in_a_long_question(self):
+        """A server ends at once, in a long question, too, and loses no step."""
+        for number in (signal.SIGINT, signal.SIGTERM, signal.SIGHUP, signal.SIGKILL):
+            with Served(around()) as live:
+                live.command({"do": "run", "limit": 5})
+                asking = threading.Thread(target=self.ask, args=[live], daemon=True)
+                asking.start()
+                time.sleep(1)
+                programs, begun = programs_of(live.process.pid), time.monotonic()
+                live.process.send_signal(number)
+                live.process.wait(20)
+                said = live.process.stdout.read()
+            with self.subTest(number):
+                self.assertLess(time.monotonic() - begun, 3)
+                self.assertEqual([len(programs), *filter(is_alive, programs)], [2])
+            wanted = "the kept steps are saved"
+            if number == signal.SIGKILL:
+                with Served(around()) as live:
+                    said, wanted = live.said[-3], "a session that was killed left steps"
+            with self.subTest(number, of="file"):
+                self.assertEqual(self.kept_in(said, wanted), 6)
+
+    def ask(self, live):
+        with contextlib.suppress(OSError, ValueError, http.client.HTTPException):
+            live.asked("finish", {**ASK, **LONG})
+
+    def test_cancelled(self):
+        """A long question is cancelled at once, and others are answered meanwhile."""
+        with Served(around()) as live:
+            told = []
+            asking = threading.Thread(target=lambda: told.append(live.asked("finish", {**ASK, **LONG})))
+            asking.start()
+            time.sleep(1)
+            begun = time.monotonic()
+            self.assertEqual(live.command({"do": "run", "limit": 5})["picture"]["at"], 6)
+            self.assertEqual(live.asked("cancel", {}), {})
+            asking.join(20)
+            self.assertLess(time.monotonic() - begun, 3)
+            self.assertEqual(told, [{"stopped": "cancelled"}])
+            self.assertIn("words", live.asked("finish", {**ASK, "limit": 5}))
+
+
+class Starting(unittest.TestCase):
+    def test_progress(self):
+        """A long start says how far it is."""
+        graph, lines = chain(1, 9, 1)
+        live, said = Live(Session(graph), "progress"), []
+        self.addCleanup(live.close)
+        live.say = said.append
+        with mock.patch.object(tool, "BETWEEN", 0):
+            live.execute(lines_for([*lines, {"do": "run", "limit": 1200}, *lines * 120]))
+        self.assertEqual(said[0], "line 9 of 1090")
+        self.assertEqual(said[-2:], ["line 1010 of 1090", "line 1090 of 1090"])
 
 
 class Tunnels(unittest.TestCase):

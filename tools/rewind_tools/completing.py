@@ -13,7 +13,7 @@ OPS = {
     "sink": ["sink"],
 }  # fmt: skip
 # The words that mark what follows them, or stand alone.
-MARKS = ("to", "only", "at", "dest", "keep", "before", "seed", "limit", *USERS)
+MARKS = ("to", "only", "at", "dest", "keep", "before", "seed", "limit", "rest", *USERS)
 TAKES_FILE = ("load", "save")
 
 

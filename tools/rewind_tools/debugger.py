@@ -1,31 +1,30 @@
-"""A session that a person debugs: the cursor, the kept steps, the runs that were discarded, and whether
-steps are in no file; and what is said of each line's answer."""
+"""A session that a person debugs: its journal, the second program for what takes long, and what is said of
+each line's answer."""
 import json
 import signal
 import sys
 
-from rewind_tools import opening
-from rewind_tools.dropped import Dropped
+from rewind_tools import opening, second
+from rewind_tools.journal import Journal
 from rewind_tools.script import STEPS
 from rewind_tools.telling import faults, names
 from rewind_tools.telling.answers import Teller
 from rewind_tools.telling.commands import FIRM, command_words, counted
 from rewind_tools.telling.effects import effect_words
 from rewind_tools.telling.table import queues_and_sinks, table
+from rewind_tools.tool import Progress
 from rewind_tools.typed import NotTyped
 
-# How many steps of a run are executed before it is looked whether it is to stop.
-PIECE = 1000
-MOST_POSITION = 1_000_000
 # How much of a list is shown at once, how many refused lines of a script, and how many steps of a run.
 MOST_SHOWN, MOST_REFUSED, MOST_NAMED = 40, 8, 8
 
 
 class Stop:
-    """Ctrl-C at a terminal while a command is executed: it asks the command to stop, and ends nothing."""
+    """Ctrl-C at a terminal while a command is executed: it asks the command to stop, and ends nothing but
+    what `act` does."""
 
-    def __init__(self, is_terminal):
-        self.is_on, self.is_asked = is_terminal, False
+    def __init__(self, is_terminal, act):
+        self.is_on, self.act, self.is_asked = is_terminal, act, False
 
     def __enter__(self):
         self.is_asked = False
@@ -34,6 +33,7 @@ class Stop:
 
     def ask(self, *_):
         self.is_asked = True
+        self.act()
 
     def __exit__(self, *_):
         if self.is_on:
@@ -43,13 +43,17 @@ class Stop:
 class Debugger:
     """A session, and what is known of it."""
 
-    def __init__(self, session, is_raw=False, is_terminal=False):
+    def __init__(self, session, name, is_raw=False, is_terminal=False):
         self.session, self.is_raw, self.is_terminal = session, is_raw, is_terminal
-        self.at = self.kept = 0
-        self.is_unsaved = False
-        self.stop, self.dropped = Stop(is_terminal), Dropped(session)
+        self.progress = Progress(self.show_progress)
+        self.journal = Journal(session, name, self.note)
+        self.journal.report, self.journal.may_go_on = self.progress.report, lambda: not self.stop.is_asked
+        self.second = second.Second(self.journal, self.progress.report)
+        self.stop = Stop(is_terminal, self.second.stop)
         graph = names.Graph(session.graph, session.version)
         self.teller = Teller(graph, session.started["processors"], False, session.version)
+
+    at, kept = property(lambda it: it.journal.at), property(lambda it: it.journal.kept)
 
     def say(self, text):
         print(text.replace(FIRM, " "), flush=True)
@@ -61,6 +65,10 @@ class Debugger:
         """Says what is no reply: beside replies as JSON, on standard error."""
         print(text, file=sys.stderr if self.is_raw else sys.stdout, flush=True)
 
+    def show_progress(self, text):
+        """Says how far something long is."""
+        print(f"{text}; Ctrl-C stops", file=sys.stderr, flush=True)
+
     def ask(self, value):
         """Asks the program a line, and prints its answer, what it discarded and what a step changed."""
         before = self.at
@@ -71,6 +79,8 @@ class Debugger:
             for sentence in self.answer(value, reply):
                 self.say(sentence)
         self.keep_breaks(value, reply)
+        if not self.is_raw and value.get("do") in ("back", "redo", "jump"):
+            self.say_place()
         if gone:
             self.note_discarded(gone, before)
         if not self.is_raw and self.at > before and value.get("do") in (*STEPS, "run"):
@@ -78,36 +88,24 @@ class Debugger:
         if not self.is_raw and "state" in reply:
             self.show_state(reply["state"])
 
+    def say_place(self):
+        """Says where the step before the cursor comes from, if a trace has it."""
+        said = f"step {self.at} is"
+        if (told := self.journal.with_place(self.at, said)) != said:
+            self.say(told)
+
     def note_discarded(self, gone, before):
         """Says how many kept steps were discarded, and how they come back."""
         steps = f"{counted(gone, 'kept step')} after position {before} {'is' if gone == 1 else 'are'}"
-        path = self.dropped.path
-        self.note(f"{steps} discarded; 'undrop' brings the run back, which is saved in {path}")
+        self.note(f"{steps} discarded; 'undrop' brings the run back")
 
     def executed(self, value):
-        """The reply to a line, and how many kept steps it discarded. A long run is executed in pieces, until
-        it is asked to stop."""
-        limit = value.get("limit") if value.get("do") == "run" else None
-        is_long = isinstance(limit, int) and PIECE < limit <= MOST_POSITION - self.at
-        pieces = range(0, limit, PIECE) if is_long else [0]
-        ran = gone = 0
-        for done in pieces:
-            line = {**value, "limit": min(PIECE, limit - done)} if is_long else value
-            reply, dropped = self.dropped.ask(line, self.at, self.kept)
-            self.keep(line, reply)
-            ran, gone = ran + reply.get("ran", 0), gone + dropped
-            if reply.get("stop") != "limit":
-                break
-            if self.stop.is_asked and done + PIECE < limit:
-                reply["stop"] = "interrupt"
-                break
-        return ({**reply, "ran": ran} if "ran" in reply else reply), gone
-
-    def keep(self, value, reply):
-        """Keeps what a reply says of the cursor and the kept steps."""
-        is_step = "at" in reply and value["do"] in (*STEPS, "run")
-        self.is_unsaved |= is_step and reply["at"] > self.at
-        self.at, self.kept = reply.get("at", self.at), reply.get("kept", self.kept)
+        """The reply to a line, and how many kept steps it discarded. What may take long is asked of the
+        second program."""
+        if isinstance(value, dict) and second.is_long(value):
+            return self.second.ask(value, *self.second.here()), 0
+        is_run = isinstance(value, dict) and value.get("do") == "run"
+        return self.journal.run(value) if is_run else self.journal.ask(value)
 
     def keep_breaks(self, value, reply):
         """Keeps what a reply says of the breakpoints."""
@@ -120,6 +118,7 @@ class Debugger:
         if "line" in reply and "error" in reply:
             text = json.dumps(value).encode()
             return faults.faulty(reply, faults.line_faults(text, reply, self.teller))
+        self.teller.at, self.teller.kept = self.at, self.kept
         state = (
             self.session.ask({"do": "state"})["state"] if "error" in reply and value["do"] in STEPS else None
         )
@@ -139,7 +138,7 @@ class Debugger:
         last = min(self.at, before + MOST_NAMED)
         steps = self.session.ask_all([{"do": "step", "to": it} for it in range(before + 1, last + 1)])
         for position, reply in enumerate(steps, before + 1):
-            self.say(f"  {position}. {command_words(reply['step'])}")
+            self.say(self.journal.with_place(position, f"  {position}. {command_words(reply['step'])}"))
         if last < self.at:
             self.say(f"  ...; 'export {last + 1}' lists the others")
         return None
@@ -152,7 +151,7 @@ class Debugger:
         if "changed" not in reply:
             return self.say("; ".join(self.answer({"do": "effect", "to": position}, reply)))
         graph = self.teller.graph
-        self.say(f"step {position}: {command_words(reply['step'])}")
+        self.say(self.journal.with_place(position, f"step {position}: {command_words(reply['step'])}"))
         for sentence in effect_words(reply["changed"], graph.holds, graph.distincts):
             self.say(f"  {sentence}")
         return None
@@ -168,28 +167,26 @@ class Debugger:
     def candidates(self):
         return self.session.ask({"do": "candidates"})["candidates"]
 
-    def say_page(self, word, listed, first):
+    def say_page(self, word, numbers, first, sentences):
         """Says a part of a list of numbered sentences, and how the rest is listed."""
-        shown = [it for it in listed if it[0] >= first][:MOST_SHOWN]
-        for number, sentence in shown:
+        shown = range(max(first, numbers.start), numbers.stop)[:MOST_SHOWN]
+        for number, sentence in zip(shown, sentences(shown) if shown else []):
             self.say(f"{number:3}  {sentence}")
-        if listed and not shown:
-            self.say(f"     the last is {listed[-1][0]}")
-        elif shown and shown[-1] != listed[-1]:
-            self.say(f"     ...; '{word} {shown[-1][0] + 1}' lists the next, up to {listed[-1][0]}")
+        if numbers and not shown:
+            self.say(f"     the last is {numbers[-1]}")
+        elif shown and shown[-1] != numbers[-1]:
+            self.say(f"     ...; '{word} {shown[-1] + 1}' lists the next, up to {numbers[-1]}")
 
-    def execute(self, script):
+    def execute(self, script, is_script=False):
         """Executes the lines of a script without a word of each; says how many, and what was refused."""
         refused, done = [], 0
-        for entry in opening.executed(self.session, script.lines):
+        for entry in opening.executed(self.journal, script.lines, is_script):
             done += 1
             if "error" in entry.reply:
                 refused.append(entry)
             self.keep_breaks(entry.line.value, entry.reply)
-            self.keep(entry.line.value, entry.reply)
-            if self.stop.is_asked and done % opening.PIECE == 0:
-                self.note(f"stopped by Ctrl-C after line {entry.line.number} of the script")
-                break
+        if done < len(script.lines):
+            self.note(f"stopped by Ctrl-C after line {script.lines[done - 1].number} of the script")
         for entry in refused[:MOST_REFUSED]:
             self.note(opening.refusal(entry, self.teller))
         if len(refused) > MOST_REFUSED:

@@ -14,6 +14,10 @@ and depth=NUMBER. An arrow is --> for the route local and --exchange--> for exch
 also stand [NAME], the name of the edge, and port=NUMBER. Without them an edge from a to b has the name a-b
 and leaves on port 0.
 
+NAME[INPUTS,OUTPUTS] declares an operator by its ports (rewind_tools/ports.py), as join[2,1]: each input
+leads to each output. After the numbers may stand which lead where, as 0>0 1>1 or none, starts=false and
+depth=NUMBER. An arrow to such an operator may have to=NUMBER, its input, and port= is an output.
+
 A depth that is not given follows along the edges from the inputs, which are at depth 0, and from the depths
 that are given. Where there is neither, the first vertex is at depth 0. # begins a comment. A name with other
 characters than letters, digits, _ . / : + * and single hyphens is written as a JSON text, as "a#1". In a
@@ -23,10 +27,12 @@ A text that is read has the form of a graph, each name once, and a vertex at eac
 such as ports and depths that do not fit, is left to the program. Wrong says the line, the column and the
 reason."""
 import collections
+import contextlib
 import json
 import re
 from typing import NamedTuple
 
+from rewind_tools import ports
 from rewind_tools.runs import json_of
 from rewind_tools.script import LAST, MOST_PORTS, OPS, OPTIONAL_OF_OPS
 from rewind_tools.telling import values
@@ -39,9 +45,12 @@ PLAIN = re.compile(r"[\w./:+*]+(?:-[\w./:+*]+)*", re.ASCII)
 WORD, KEY, NUMBER = re.compile(r"[A-Za-z]+"), re.compile(r"([A-Za-z]+)[ \t]*="), re.compile(r"-?[0-9]+")
 BLANKS = re.compile(r"[ \t]*")
 # How a text of paths begins in a script.
-BEGINS = re.compile(r'\s*(?:"(?:\\.|[^"\\])*"|[^\s"{}()\[\]]+)\s*(?:\(|--)|[^{]*-->')
+BEGINS = re.compile(r'\s*(?:"(?:\\.|[^"\\])*"|[^\s"{}()\[\]]+)\s*(?:\(|--|\[\d)|[^{]*-->')
 ARROWS = "an arrow is -->, --exchange-->, --[NAME]--> or --port=1-->"
-LIMITS = {"k": values.SIGNED, "depth": values.SMALL, "port": values.SMALL, "ports": (0, MOST_PORTS)}
+LIMITS = {"k": values.SIGNED, "ports": (0, MOST_PORTS)}
+LIMITS.update(dict.fromkeys(("depth", "port", "to"), values.SMALL))
+LEAD = re.compile(r"[0-9]+>[0-9]+|none\b")
+PORT_KEYS = "stand ways, as 0>0, of an input to an output, or none, starts= and depth="
 FLAGS = [key for of in OPS.values() for key, kind in of.items() if kind == "flag"]
 # How many faults of a value are said.
 MOST_FAULTS = 3
@@ -97,10 +106,11 @@ class Vertex(NamedTuple):
 
 
 class Parts:
-    """What has been read of a graph: its vertices by their names, its edges, and the line of each name."""
+    """What has been read of a graph: its vertices by their names, its edges, the line of each name, and the
+    operators by their ports."""
 
     def __init__(self):
-        self.vertices, self.edges, self.named = {}, [], {}
+        self.vertices, self.edges, self.named, self.operators = {}, [], {}, {}
 
     def name(self, name, line, at, advice=""):
         """Notes that a vertex or an edge has a name, which no other may have."""
@@ -124,7 +134,7 @@ def read_name(line, of):
         if name is None:
             raise line.wrong(f"the name of {of} is missing: {line.here()}")
         odd = line.text[line.at : line.at + 1]
-        if odd and odd not in ' \t(-]#"':
+        if odd and odd not in ' \t([-]#"':
             raise line.wrong(f"a name with {values.shown(odd)} in it is written in quotation marks")
     fault = "is no name" if re.search(r"[\ud800-\udfff]", name) else name_fault(name)
     if fault:
@@ -196,19 +206,56 @@ def read_vertex(line, parts):
     line.take("")
     begin = line.at
     name = read_name(line, "a vertex")
-    if line.take("("):
-        if name in parts.vertices:
-            before = f"{name} has its operator in line {parts.vertices[name].number} already"
+    is_by_ports = line.text.startswith("[", line.at)
+    if is_by_ports or line.take("("):
+        if name in parts.vertices or name in parts.operators:
+            before = f"{name} has its operator in line {parts.named[name]} already"
             raise line.wrong(f"{before}; after that it is {written(name)} alone", begin)
         parts.name(name, line, begin)
-        op, given = read_op(line, name)
-        parts.vertices[name] = Vertex(op, given, line.number, begin + 1)
-    elif name not in parts.vertices:
-        near = nearest(name, parts.vertices)
+        if is_by_ports:
+            read_ports(line, parts, name, begin)
+        else:
+            op, given = read_op(line, name)
+            parts.vertices[name] = Vertex(op, given, line.number, begin + 1)
+    elif name not in parts.vertices and name not in parts.operators:
+        near = nearest(name, [*parts.vertices, *parts.operators])
         hint = f"; the nearest vertex is {near}" if near else ""
         why = f"{name} needs an operator at its first mention, as {written(name)}(sum)"
         raise line.wrong(why + hint, begin)
     return name
+
+
+def read_ports(line, parts, name, begin):
+    """The ports of an operator, in brackets: adds its vertices and the edges between them."""
+    line.take("[")
+    at, (inputs, _, outputs) = line.at, (line.take(NUMBER), line.take(","), line.take(NUMBER))
+    is_none = outputs is None or not 0 < len(inputs) + len(outputs) < 5
+    if is_none or not 0 < int(inputs) + int(outputs) or max(int(inputs), int(outputs)) > MOST_PORTS:
+        counts = f"its inputs and its outputs, from 0 to {MOST_PORTS} each"
+        raise line.wrong(f"{written(name)} has {counts}, as {written(name)}[2,1]", at)
+    made = ports.Operator(name, int(inputs), int(outputs))
+    every, leads, given = made.pairs, [], {}
+    while not line.take("]"):
+        at, lead = line.at, line.take(LEAD)
+        pair = tuple(map(int, lead.split(">"))) if lead and lead != "none" else None
+        key = None if lead else line.take(KEY)
+        if pair and (pair not in every or pair in leads) or not lead and key not in ("depth", "starts"):
+            why = f"in the brackets of {name} {PORT_KEYS}"
+            raise line.wrong(f"{why}, and not {values.shown(line.text[at:].strip(), 24)}", at)
+        leads += [pair] if pair else []
+        made = made._replace(leads=tuple(sorted(leads))) if lead else made
+        if key:
+            given[key] = read_flag(line, key) if key in FLAGS else read_number(line, key)
+    made = made._replace(starts=given.pop("starts", True))
+    for it in [*made.vertices(0), *made.edges]:
+        if name_fault(it["name"]):
+            raise line.wrong(f"the name {it['name']} {name_fault(it['name'])}: {name} is too long", begin)
+        parts.name(it["name"], line, begin)
+    for it in made.vertices(0):
+        keys = {key: it[key] for key in OPS["opaque"] if key in it}
+        parts.vertices[it["name"]] = Vertex("opaque", {**keys, **given}, line.number, begin + 1)
+    parts.edges += made.edges
+    parts.operators[name] = made
 
 
 def read_arrow(line):
@@ -226,8 +273,8 @@ def read_arrow(line):
             if not line.take("]"):
                 raise line.wrong(f"the ']' after the name of an edge is missing: {line.here()}")
         elif key := line.take(KEY):
-            if key != "port":
-                raise line.wrong(f"{key} is no key of an edge, which has port alone; {ARROWS}", at)
+            if key not in ("port", "to"):
+                raise line.wrong(f"{key} is no key of an edge, which has port and to; {ARROWS}", at)
             value = read_number(line, key)
         else:
             key, value = "route", line.take(WORD)
@@ -248,14 +295,27 @@ def read_path(line, parts):
         begin = line.at
         given = read_arrow(line)
         end = read_vertex(line, parts)
-        name = given.get("name", f"{start}-{end}")
+        ends = {"from": start, "port": given.get("port", 0), "to": end, "into": given.get("to", 0)}
+        name = given.get("name", ports.plain_name(parts.operators, ends))
         if "name" not in given and name_fault(name):
             why = f"the name {name} of the edge {name_fault(name)}; give another, as --[NAME]-->"
             raise line.wrong(why, begin)
         parts.name(name, line, begin, "; give another, as --[NAME]-->")
-        edge = {"name": name, "from": start, "port": given.get("port", 0), "to": end}
+        edge = {"name": name, **ends_of(line, parts.operators, ends, begin)}
         parts.edges.append({**edge, "route": given.get("route", "local")})
         start = end
+
+
+def ends_of(line, operators, ends, begin):
+    """The vertices of an edge, of which one or both may be ports of an operator."""
+    start, end = operators.get(ends["from"]), operators.get(ends["to"])
+    if start and ends["port"] >= start.outputs or ends["into"] >= (end.inputs if end else 1):
+        is_start = start and ends["port"] >= start.outputs
+        has = str(start if is_start else end or f"{ends['to']} has no inputs by number")
+        raise line.wrong(f"there is no such port; {has}", begin)
+    of_port = {"from": f"{start.name}.out{ends['port']}", "port": 0} if start else {}
+    into = {"to": f"{end.name}.in{ends['into']}"} if end else {}
+    return {key: it for key, it in {**ends, **of_port, **into}.items() if key != "into"}
 
 
 def spread(known, around, names):
@@ -326,8 +386,9 @@ def given_depths(graph):
 
 def arrow_of(edge):
     """An edge as the text has it."""
-    name = [] if edge["name"] == f"{edge['from']}-{edge['to']}" else [f"[{written(edge['name'])}]"]
+    name = [] if edge["name"] == edge["plain"] else [f"[{written(edge['name'])}]"]
     port = [f"port={edge['port']}"] if edge["port"] else []
+    port += [f"to={edge['into']}"] if edge["into"] else []
     route = ["exchange"] if edge["route"] == "exchange" else []
     given = " ".join(name + port + route)
     return f"--{given}-->" if given else "-->"
@@ -355,9 +416,11 @@ class Printing:
             return written(name)
         it = self.vertices[self.declared]
         self.declared += 1
-        keys = [key for key in OPS[it["op"]] if key in it] + ["depth"] * (name in self.given)
+        keys = ["depth"] * (name in self.given)
+        keys = keys if it["operator"] else [key for key in OPS[it["op"]] if key in it] + keys
         given = "".join(f" {key}={values.shown(it[key])}" for key in keys)
-        return f"{written(name)}({it['op']}{given})"
+        by_ports = it["operator"]
+        return written(name) + (f"[{by_ports.text}{given}]" if by_ports else f"({it['op']}{given})")
 
     def declare(self):
         """Adds the next vertex in a line of its own."""
@@ -385,6 +448,15 @@ def text_of(graph):
     faults = shape_faults(graph, LAST) or double_names(graph) or unknown_names(graph)
     if faults:
         raise Wrong("; ".join(faults[:MOST_FAULTS]))
+    by_ports = printed(ports.folded(graph))
+    with contextlib.suppress(Wrong):
+        if read(by_ports.split("\n")) == graph:
+            return by_ports
+    return printed(ports.folded(graph, {}))
+
+
+def printed(graph):
+    """The text of a graph whose operators by ports are folded."""
     printing = Printing(graph)
     for edge in graph["edges"]:
         printing.add(edge)

@@ -29,7 +29,8 @@ SOURCES = ("crates", "crates.txt")
 # What a checkout can start, with what goes into the package.
 WITHIN = ("README.md", "rewind", "check", "docs", "editors", "examples", "tools", "gate", "bench")
 PACKED = re.compile(
-    r"README\.md|rewind|(?:docs|editors|examples)/.*|tools/(?:dap|follow|graph|live|repl|replay|show|tell)"
+    r"README\.md|rewind|(?:docs|editors|examples)/.*"
+    r"|tools/(?:dap|follow|graph|live|repl|replay|show|tell|timely)"
     r"|tools/rewind_tools/(?!(?:browser|package|testing)\.py$).*"
 )
 LINK = re.compile(r"\[((?:[^\[\]`]|`[^`]*`)*)\]\(([^()\s]+)\)")

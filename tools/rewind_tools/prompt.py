@@ -3,13 +3,18 @@
 Each command is a word of the script (rewind_tools/typed.py), a line as JSON, or a word of which the class
 Prompt has a method do_WORD; its documentation is what 'help' says of it."""
 import cmd
+import difflib
 import json
+import os
 import signal
 
 from rewind_tools import completing, graph_text, opening
 from rewind_tools.debugger import MOST_SHOWN, Debugger
+from rewind_tools.journal import Stopped
+from rewind_tools.ports import operators_of, ports_of
 from rewind_tools.script import COMMANDS, FORMS, QUERIES, STEPS
-from rewind_tools.session import script_of, write_text
+from rewind_tools.session import write_text
+from rewind_tools.sources import places_of, remove_others
 from rewind_tools.telling.answers import all_candidates
 from rewind_tools.telling.commands import command_words, counted, edge_words, vertex_words
 from rewind_tools.tool import words_of
@@ -48,10 +53,10 @@ FORM_OF = {"back": "[N]", "redo": "[N]", "export": "[N]"}
 class Prompt(cmd.Cmd, Debugger):
     """A session at a prompt."""
 
-    def __init__(self, session, is_raw=False, is_terminal=False):
+    def __init__(self, session, name="typed", is_raw=False, is_terminal=False):
         cmd.Cmd.__init__(self)
-        Debugger.__init__(self, session, is_raw, is_terminal)
-        self.use_rawinput = is_terminal
+        Debugger.__init__(self, session, name, is_raw, is_terminal)
+        self.use_rawinput, self.may_replace = is_terminal, None
 
     # ---- the line and its answer
 
@@ -61,10 +66,11 @@ class Prompt(cmd.Cmd, Debugger):
 
     def onecmd(self, line):
         """Executes one typed line; true if it is the last."""
+        self.progress.begin()
         try:
             with self.stop:
                 return super().onecmd(line)
-        except NotTyped as fault:
+        except (NotTyped, Stopped) as fault:
             self.say(f"{fault}")
         except BrokenPipeError:
             raise
@@ -87,12 +93,18 @@ class Prompt(cmd.Cmd, Debugger):
         if not words:
             return None
         if words[0] not in FORMS:
-            raise NotTyped(f"{words[0]} is no command; 'help' lists them")
+            raise self.no_command(words[0])
         if words == ["release"]:
             return self.held()
         if words[0] in STEPS and len(words) == 1 and words[0] not in ("feed", "send"):
             return self.first_of(words[0])
         return self.ask(line_of(words, self.defaults(words[0])))
+
+    def no_command(self, word):
+        """The fault that a word is no command, with one that is like it."""
+        like = difflib.get_close_matches(word, [*FORMS, *self.own_words()], 1)
+        meant = f" did you mean {like[0]}?" if like else ""
+        return NotTyped(f"{word} is no command;{meant} 'help' lists them")
 
     def defaults(self, word):
         """What stands for the values of a command that are not typed."""
@@ -141,7 +153,7 @@ class Prompt(cmd.Cmd, Debugger):
         if self.is_raw:
             return self.say_json(reply)
         head, sentences = all_candidates(self.teller, reply)
-        self.say_page("can", list(enumerate(sentences)), first)
+        self.say_page("can", range(len(sentences)), first, lambda part: [sentences[it] for it in part])
         return self.say(head)
 
     def do_do(self, rest):
@@ -203,14 +215,19 @@ class Prompt(cmd.Cmd, Debugger):
         """where: the cursor and the kept steps"""
         if self.is_raw:
             return self.say_json({"at": self.at, "kept": self.kept})
-        return self.say(f"position {self.at} of {self.kept}")
+        return self.say(self.journal.with_place(self.at, f"position {self.at} of {self.kept}"))
 
     def do_graph(self, rest):
         """graph: list the vertices, each with the edges that leave it"""
         if self.is_raw:
             return self.say_json(self.session.graph)
+        ports, last = ports_of(operators_of(self.session.graph)), None
         for vertex in self.teller.graph.vertices.values():
-            self.say(vertex_words(vertex))
+            operator, port = ports.get(vertex["name"], (None, None))
+            if operator and operator != last:
+                self.say(f"{operator}")
+            self.say(f"  {port}: {vertex['name']}" if operator else vertex_words(vertex))
+            last = operator
             for edge in self.teller.graph.edges.values():
                 if edge["from"] == vertex["name"]:
                     self.say(f"    {edge_words(edge)}")
@@ -218,19 +235,21 @@ class Prompt(cmd.Cmd, Debugger):
 
     def do_export(self, rest):
         first = self.number("export", rest, 1)
-        reply = self.session.ask({"do": "export"})
         if self.is_raw:
-            return self.say_json(reply)
-        self.say(f"{counted(len(reply['steps']), 'kept step')}, and the cursor is at {reply['at']}")
-        listed = [(at, command_words(it)) for at, it in enumerate(reply["steps"], 1)]
-        return self.say_page("export", listed, first)
+            return self.say_json(self.session.ask({"do": "export"}))
+        self.say(f"{counted(self.kept, 'kept step')}, and the cursor is at {self.at}")
+        return self.say_page("export", range(1, self.kept + 1), first, self.steps_words)
+
+    def steps_words(self, positions):
+        """The steps that lead to positions, in words."""
+        replies = self.session.ask_all([{"do": "step", "to": it} for it in positions])
+        told = [command_words(it["step"]) for it in replies]
+        return [self.journal.with_place(*it) for it in zip(positions, told)]
 
     def do_undrop(self, rest):
         """undrop: bring back the run that the last new step discarded; again, the one before it"""
-        reply = self.dropped.bring_back()
-        if reply is None:
+        if not self.journal.bring_back():
             raise NotTyped("no kept steps were discarded")
-        self.at, self.kept, self.is_unsaved = reply["at"], reply["kept"], True
         self.do_where("")
 
     def do_load(self, rest):
@@ -241,7 +260,7 @@ class Prompt(cmd.Cmd, Debugger):
         if script.graph != self.session.graph:
             what = "has no graph" if script.graph is None else "has another graph than this session"
             raise NotTyped(f"{path} {what}: nothing is executed; 'tools/repl {path}' opens it")
-        gone = self.dropped.around(lambda: self.execute(script), self.at, self.kept)
+        gone = self.journal.around(lambda: self.execute(script))
         if gone:
             self.note(f"{counted(gone, 'kept step')} discarded; 'undrop' brings the run back")
         self.do_where("")
@@ -249,15 +268,20 @@ class Prompt(cmd.Cmd, Debugger):
     def read_script(self, path, script):
         """A script's graph and lines."""
         try:
-            return opening.read(graph_text.with_json(script))
+            return opening.read(graph_text.with_json(script), places_of(path))
         except graph_text.Wrong as wrong:
             raise NotTyped(f"{path}: {wrong}") from wrong
 
     def do_save(self, rest):
         """save FILE: write the script of the kept steps"""
         path = self.file("save", rest)
-        write_text(path, script_of(self.session))
-        self.is_unsaved = False
+        if os.path.isfile(path) and self.may_replace != path:
+            self.may_replace = path
+            raise NotTyped(f"{path} is there already; the same again writes over it")
+        self.may_replace = path
+        write_text(path, self.journal.script())
+        remove_others(path, self.journal.places())
+        self.journal.saved()
         words = " ".join(self.session.words)
         self.say(f"saved; './rewind {words}{' ' * bool(words)}< {path}' executes it again")
 
@@ -269,7 +293,7 @@ class Prompt(cmd.Cmd, Debugger):
 
     def do_quit(self, rest):
         """quit: end; Ctrl-D does so too"""
-        return not self.is_unsaved or not self.is_terminal or self.may_lose()
+        return not self.journal.is_unsaved or not self.is_terminal or self.may_lose()
 
     do_exit = do_quit
 
@@ -281,10 +305,10 @@ class Prompt(cmd.Cmd, Debugger):
 
     def may_lose(self):
         """Asks whether the steps that no file has may be lost; a second Ctrl-D says yes."""
-        said = f"{counted(self.kept, 'kept step')} not saved; 'save FILE' saves them."
+        self.say(f"{self.journal.unsaved_words()}; 'save FILE' saves them")
         handler = signal.signal(signal.SIGINT, signal.default_int_handler)
         try:
-            return input(f"{said} End all the same (y/n)? ").strip().lower() in ("y", "yes")
+            return input("End all the same (y/n)? ").strip().lower() in ("y", "yes")
         except EOFError:
             self.say("")
             return True
@@ -342,7 +366,7 @@ class Prompt(cmd.Cmd, Debugger):
     def help_of(self, word):
         own = getattr(self, f"do_{word}", None)
         if word not in FORMS and not own:
-            raise NotTyped(f"{word} is no command; 'help' lists them")
+            raise self.no_command(word)
         said = f"{self.form_of(word)}: {KINDS[word]}" if word in FORMS else own.__doc__
         self.say(said)
         if "CONDITION" in said:

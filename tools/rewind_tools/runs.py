@@ -36,7 +36,7 @@ from typing import NamedTuple
 from rewind_tools.script import LAST
 
 TOP = os.path.dirname(os.path.dirname(os.path.dirname(os.path.abspath(__file__))))
-PROGRAM = os.environ.get("REWIND_PROGRAM", os.path.join(TOP, "rewind"))
+PROGRAM = os.environ.get("REWIND_PROGRAM") or os.path.join(TOP, "rewind")
 STATE = '{"do":"state"}'
 # How the lines begin in which ./rewind speaks of itself, which are no part of the program's words; and those
 # that were passed on.

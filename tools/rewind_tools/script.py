@@ -36,7 +36,7 @@ QUERIES = {
     "passed": {"q": "small", "at": "place", "time": "time"},
     "search": {"when": "when", "lo": "whole", "hi": "whole", "workers": "whole"},
     "export": {},
-    "why": {"q": "small", "at": "place", "time": "time", "before": "flag"},
+    "why": {"q": "small", "at": "place", "time": "time", "before": "flag", "rest": "whole"},
     "changes": {"q": "small", "at": "place", "time": "time", "lo": "whole", "hi": "whole"},
     "step": {"to": "whole"},
     "candidates": {},
@@ -47,8 +47,9 @@ QUERIES = {
 FORMS = {**COMMANDS, **QUERIES}
 # The keys of each word that a line may leave out, each with the version with which it came.
 OPTIONAL = {
-    "broadcast": {"part": 1}, "frontier": {"at": 4}, "why": {"before": 4}, "release": {"to": 5, "keep": 6},
-    "run": {"only": 5, "seed": 7}, "send": {"at": 6, "dest": 6}, "reach": {"with": 7},
+    "broadcast": {"part": 1}, "frontier": {"at": 4}, "why": {"before": 4, "rest": 8},
+    "release": {"to": 5, "keep": 6}, "run": {"only": 5, "seed": 7}, "send": {"at": 6, "dest": 6},
+    "reach": {"with": 7},
 }  # fmt: skip
 # A key that may be left out, but not beside another: that key by the word and the key.
 NEEDED_BY = {("release", "to"): "keep"}
@@ -57,7 +58,7 @@ SINCE = {
     "export": 2, "why": 3, "changes": 3, "step": 3, "candidates": 4, "effect": 4, "turns": 4, "release": 5,
     "send": 6, "reach": 7,
 }  # fmt: skip
-LAST = 7
+LAST = 8
 # The words of "next"; from a later version on, it may also be {"to": n}.
 NEXTS, NEXT_TO_SINCE = ("next", "close", "stay"), 5
 # The most processors under "only".

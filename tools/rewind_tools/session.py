@@ -8,26 +8,38 @@
     session.ask_lines([b"..", ..])      the same of lines given as bytes, the replies as bytes, too
     session.close()
 
-    opening, commands = read_script(open(path, "rb").read())      a script's graph, and the commands after it
-
 The program is ./rewind, or what REWIND_PROGRAM names in the environment. It runs in a session of its own, so
-Ctrl-C at the terminal reaches the tool alone."""
+Ctrl-C at the terminal reaches the tool alone; and it ends with the tool, however that ends. Another thread
+may kill it: whoever waits for a reply then gets Ended."""
 import contextlib
+import ctypes
 import json
 import os
 import signal
 import subprocess
 import tempfile
 import threading
+from concurrent.futures import ThreadPoolExecutor
 
-from rewind_tools.runs import NOTES, PROGRAM, environment, lines_of
-from rewind_tools.script import COMMANDS, LAST
+from rewind_tools.runs import NOTES, PROGRAM, environment
+from rewind_tools.script import LAST
 
-SECONDS_TO_END = 2
 # How often the notes of ./rewind are looked for while the program starts, and how much of them is read.
 SECONDS_BETWEEN, MOST_SAID = 0.5, 1 << 20
 # What a pipe takes at once, however little room the system gives it.
 PIPE_BYTES = 4096
+# Linux ends a program with the thread that started it, if the program asks for that (prctl's number). So one
+# thread starts all of them, and stays as long as the tool.
+LIBC, PR_SET_PDEATHSIG = ctypes.CDLL(None), 1
+STARTER = ThreadPoolExecutor(1)
+
+
+def end_with(parent):
+    """Has the process end with its parent; called in the new process."""
+    if hasattr(LIBC, "prctl"):
+        LIBC.prctl(PR_SET_PDEATHSIG, signal.SIGKILL)
+    if os.getppid() != parent:
+        os._exit(1)
 
 
 class Ended(Exception):
@@ -45,10 +57,11 @@ class Session:
     def __init__(self, graph, words=(), version=LAST, on_note=None):
         self.graph, self.words, self.version = graph, list(words), version
         self.errors = tempfile.TemporaryFile()
+        parent = os.getpid()
         how = {"stdin": subprocess.PIPE, "stdout": subprocess.PIPE, "stderr": self.errors}
-        self.process = subprocess.Popen(
-            ["rewind", *self.words], executable=PROGRAM, env=environment(), start_new_session=True, **how
-        )
+        how |= {"env": environment(), "start_new_session": True, "preexec_fn": lambda: end_with(parent)}
+        words = ["rewind", *self.words]
+        self.process = STARTER.submit(subprocess.Popen, words, executable=PROGRAM, **how).result()
         has_started = threading.Event()
         watching = threading.Thread(target=self.pass_notes, args=[on_note or (lambda it: None), has_started])
         watching.start()
@@ -75,7 +88,7 @@ class Session:
 
     def ask_texts(self, texts):
         """The replies to lines that are given as bytes, none of them blank, in their order."""
-        return [json.loads(it) for it in self.ask_lines(texts)]
+        return [json.loads(it.decode()) for it in self.ask_lines(texts)]
 
     def ask_lines(self, texts):
         """The same, each reply as the line that it is."""
@@ -130,24 +143,23 @@ class Session:
         how = f"by signal {-status}" if status < 0 else f"with status {status}"
         return f"the program ended {how}" + (f": {self.said()}" if self.said() else "")
 
+    def on_end(self, act):
+        """Has something done as soon as the program has ended."""
+        threading.Thread(target=lambda: (self.process.wait(), act()), daemon=True).start()
+
     def kill(self):
         """Ends the program at once, with all that it has started."""
-        with contextlib.suppress(ProcessLookupError):
-            os.killpg(self.process.pid, signal.SIGKILL)
+        if self.process.poll() is None:
+            with contextlib.suppress(ProcessLookupError):
+                os.killpg(self.process.pid, signal.SIGKILL)
         self.process.wait()
 
     def close(self):
-        """Ends the program and lets go of its pipes."""
-        try:
-            self.process.stdin.close()
-        except OSError:
-            pass
-        try:
-            self.process.wait(SECONDS_TO_END)
-        except subprocess.TimeoutExpired:
-            self.kill()
-        self.process.stdout.close()
-        self.errors.close()
+        """Ends the program at once, and lets go of its pipes."""
+        self.kill()
+        for it in (self.process.stdin, self.process.stdout, self.errors):
+            with contextlib.suppress(OSError):
+                it.close()
 
 
 def write_text(path, text):
@@ -157,34 +169,3 @@ def write_text(path, text):
             it.write(text)
     except OSError as fault:
         raise OSError(fault.errno, fault.strerror, path) from fault
-
-
-def without_comments(script):
-    """A script's bytes with each line that begins with '#' left blank."""
-    lines = script.split(b"\n")
-    return b"\n".join(b"" if it.lstrip().startswith(b"#") else it for it in lines)
-
-
-def read_script(script):
-    """A script's graph, None if it has none, and its other lines: the commands, and how many other lines are
-    left out.
-
-    Queries, faulty lines and the key "client" are left out, since a session asks its own queries for one
-    client.
-    """
-    values = [it.value for it in lines_of(without_comments(script))]
-    if values and isinstance(values[0], dict) and values[0].keys() == {"version"}:
-        values = values[1:]
-    if not values or not isinstance(values[0], dict):
-        return None, [], len(values)
-    commands = [it for it in values[1:] if isinstance(it, dict) and it.get("do") in COMMANDS]
-    commands = [{key: value for key, value in it.items() if key != "client"} for it in commands]
-    return values[0], commands, len(values) - 1 - len(commands)
-
-
-def script_of(session):
-    """The script of the kept steps, which leads to the session's cursor: as text."""
-    exported = session.ask({"do": "export"})
-    back = [{"do": "jump", "to": exported["at"]}] if exported["at"] < len(exported["steps"]) else []
-    lines = [{"version": session.version}, session.graph, *exported["steps"], *back]
-    return "".join(json.dumps(it, separators=(",", ":"), ensure_ascii=False) + "\n" for it in lines)

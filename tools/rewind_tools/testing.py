@@ -6,6 +6,7 @@
 Each test counts once, and so does each of its subtests. The program is what REWIND_PROGRAM names in the
 environment, or else the one that is proved and built: so this module is imported before the others."""
 import argparse
+import contextlib
 import fcntl
 import os
 import pty
@@ -14,6 +15,7 @@ import select
 import signal
 import subprocess
 import sys
+import tempfile
 import termios
 import time
 import unittest
@@ -26,6 +28,14 @@ TOP = os.path.dirname(TOOLS)
 BUILT = os.path.join(TOP, "crates", "rewind_cli", "out", "rewind_cli")
 # Before rewind_tools.runs is imported, which looks at it.
 PROGRAM = os.environ.setdefault("REWIND_PROGRAM", BUILT)
+# Where the tools keep files of sessions, in place of the person's own folder.
+STATE = tempfile.TemporaryDirectory(prefix="rewind-state-")
+os.environ["XDG_STATE_HOME"] = STATE.name
+# A signal that is ignored, as in the background, would be ignored by what a test starts, too; one that has a
+# handler is not.
+for number in (signal.SIGINT, signal.SIGHUP):
+    if signal.getsignal(number) == signal.SIG_IGN:
+        signal.signal(number, lambda *_: None)
 SECONDS = 60
 CTRL_C = "\x03"
 # A graph on which a record of input a goes round a loop for ever.
@@ -92,6 +102,26 @@ def run(name, needs_program=True, flags=()):
         print(f"{name}/{test}: {trace[-3000:]}")
     print(f"{name}: {result.passed} passed, {len(failed)} failed")
     sys.exit(1 if failed else 0)
+
+
+def programs_of(pid):
+    """The numbers of the programs that a tool has started, the first one first."""
+    found = []
+    for it in os.listdir(f"/proc/{pid}/task"):
+        # a thread may have ended since
+        with contextlib.suppress(FileNotFoundError):
+            with open(f"/proc/{pid}/task/{it}/children", encoding="ascii") as children:
+                found += map(int, children.read().split())
+    return sorted(found)
+
+
+def is_alive(pid):
+    """Whether a process is there, at the latest a moment after it was ended."""
+    for _ in range(50):
+        if not os.path.exists(f"/proc/{pid}"):
+            return False
+        time.sleep(0.1)
+    return True
 
 
 def open_terminal():

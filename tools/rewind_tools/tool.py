@@ -3,22 +3,47 @@
     words = parser("tell", __doc__)                 an argparse parser, with the options of ./rewind
     program_words(words.parse_args())               these options, as ./rewind takes them
     run("tell", main)                               ends the tool with the status that main returns
+    open_live("run.jsonl", 2)                       opens a script in the browser, until that ends
 
 A tool never ends with a traceback for what is no fault of its own: a reader that has gone away, a full disk,
 a file that cannot be read, or the end of the program."""
 import argparse
+import contextlib
 import os
+import signal
+import subprocess
 import sys
+import time
 
 from rewind_tools import graph_text
 from rewind_tools.session import Ended
 
 MOST = {"processors": 16, "clients": 64}
 FAILED, INTERRUPTED = 1, 130
+# How many seconds there are between two words of progress.
+BETWEEN = 3
 
 
 class Fault(Exception):
     """The tool cannot go on: its text says why, in one line."""
+
+
+class Progress:
+    """Says now and then how far something is, if it takes longer than some seconds."""
+
+    def __init__(self, say):
+        self.say = say
+        self.begin()
+
+    def begin(self):
+        """Notes that something begins."""
+        self.said = time.monotonic()
+
+    def report(self, text):
+        now = time.monotonic()
+        if now - self.said >= BETWEEN:
+            self.said = now
+            self.say(text)
 
 
 class Parser(argparse.ArgumentParser):
@@ -71,6 +96,18 @@ def read_script(path):
         raise Fault(f"{path}: {wrong}") from wrong
 
 
+def open_live(path, workers):
+    """Opens a script of so many workers in the browser, until that ends. tools/live ends with the tool."""
+    live = os.path.join(os.path.dirname(os.path.dirname(os.path.realpath(__file__))), "live")
+    with subprocess.Popen([live, path, "--processors", str(workers)]) as process:
+        try:
+            while process.poll() is None:
+                with contextlib.suppress(KeyboardInterrupt):  # of which tools/live has heard, too
+                    process.wait()
+        finally:
+            process.terminate()
+
+
 def close_output():
     """Lets go of standard output, so that what could not be written is not tried again."""
     os.dup2(os.open(os.devnull, os.O_WRONLY), sys.stdout.fileno())
@@ -81,8 +118,16 @@ def words_of(fault):
     return f"{fault.filename}: {fault.strerror}" if fault.filename else f"write failed: {fault.strerror}"
 
 
+def end_by(number, _):
+    """Ends the tool as it ends by itself: so that what it has is not lost."""
+    sys.exit(128 + number)
+
+
 def status_of(name, main):
     """The status of a tool's main function; what ends it before is said in one line."""
+    for number in (signal.SIGTERM, signal.SIGHUP):
+        if signal.getsignal(number) == signal.SIG_DFL:
+            signal.signal(number, end_by)
     try:
         try:
             status = main()

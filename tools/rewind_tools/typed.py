@@ -20,7 +20,13 @@ from rewind_tools.script import ATOMS, FORMS, MOST_LITERALS, NEXTS, OPTIONAL, US
 
 JOINTS = {"and": "all", "or": "any"}
 # The keys that are typed by their own name, with the value after it.
-MARKED = {"send": ["at", "dest"], "release": ["to"], "run": ["only", "seed"], "reach": ["limit"]}
+MARKED = {
+    "send": ["at", "dest"],
+    "release": ["to"],
+    "run": ["only", "seed"],
+    "reach": ["limit"],
+    "why": ["rest"],
+}
 # The order in which the values of a command are typed, if it is not that of the grammar's keys.
 ORDERS = {"reach": ["when", "with", "limit"]}
 # What stands for a kind of value in the form that help shows, and under some keys in place of that.

@@ -31,6 +31,7 @@ use Rattle.nd_protocol.specs.declared.part.Part.TheVariants.{Points}
 use Rattle.nd_protocol.specs.declared.part.Part.TheVariants.{All as Whole}
 use Rattle.nd_cluster.specs.Candidates.{receive_of, receives_from, receives, takes, notices, broadcast_of, broadcasts, candidates_of, may_run, candidates_if, candidates_on, candidates_among, IsCandidate, performer, IsAmong, AreComplete, receives_after, left_of, AreListed, IsAnswered, Lists}
 use Rattle.nd_cluster.specs.Choice.{from_turn, candidates_from}
+use Rattle.nd_cluster.specs.Order.{Has}
 use Rattle.nd_cluster.specs.Drafted.{take_of, notice_of}
 use Rattle.nd_cluster.specs.declared.candidate.Candidate.{Candidate}
 use Rattle.nd_cluster.specs.declared.candidate.Candidates.{Candidates}
@@ -51,7 +52,7 @@ module _ {X Y : Type 0} (f : X → List Y) where
   in_each P h [] = All-nil P
   in_each P h (x ∷ xs) = All-append P (f x) (flat_map f xs) (h x) (in_each P h xs)
 
-  among_each : (x : X) (xs : List X) (y : Y) → Contains xs x → Contains (f x) y → Contains (flat_map f xs) y
+  pub among_each : (x : X) (xs : List X) (y : Y) → Contains xs x → Contains (f x) y → Contains (flat_map f xs) y
   among_each x [] y at h = absurd (omega (arith, at.1))
   among_each x (z ∷ xs) y at h = elim (Contains-append_cases (z ∷ []) xs x at) [
     | inl here ↦
@@ -83,6 +84,16 @@ not_zero (Some n) h = λ e. absurd (cc (e))
 
 none_of : (m : DeltaValue) → updates m ≡ [] → m ≡ none
 none_of m e = same m none (λ q. sym (updates-at m q) ∙ ap (λ es. or_zero (find point_cmp q es)) e ∙ sym (at-none q))
+
+-- each processor has its turn
+pub all_turns : (n turn p : ℕ) → p < n → Contains (from_turn n turn) p
+all_turns n turn p lt = by (turn % n)
+  where
+    by : (r : ℕ) → Contains (range_with_len r (n - r) ++ range_with_len 0 r) p
+    by r = elim (cases_lt p r) [
+      | inl less ↦ Contains-append_right (range_with_len r (n - r)) (range_with_len 0 r) p (in_range 0 r p (omega arith) (omega (arith, less)))
+      | inr most ↦ Contains-append_left (range_with_len r (n - r)) (range_with_len 0 r) p (in_range r (n - r) p most (omega (arith, most, lt)))
+    ]
 
 below : (n p : ℕ) → (n ≤ p → ⊥) → p < n
 below n p h = omega (arith, h)
@@ -119,7 +130,7 @@ module _ {A : Type 0} (s : ClusterState) where
 
   -- ---- each enabled candidate is one of them
 
-  performer_there : (x : Step A) → IsEnabled s x → performer x < length s.processors
+  pub performer_there : (x : Step A) → IsEnabled s x → performer x < length s.processors
   performer_there (Feed p vertex values _) e = below _ p (e.free NoProcessor)
   performer_there (Take p edge t value) e = below _ p (e.free NoProcessor)
   performer_there (Notice p vertex t) e = below _ p (e.free NoProcessor)
@@ -143,31 +154,41 @@ module _ {A : Type 0} (s : ClusterState) where
       by [] h = absurd (h refl)
       by (e ∷ es) h = among_first (Broadcast p Whole) []
 
-  covers_own : (y : Step A) → IsCandidate y → IsEnabled s y → Contains (candidates_of s (performer y)) y
+  -- an enabled candidate of a processor has what it needs
+  has_enabled : (y : Step A) → IsCandidate y → IsEnabled s y → Has s y
+  has_enabled (Feed p vertex values _) candidate e = absurd candidate
+  has_enabled (Release p vertex times) candidate e = absurd candidate
+  has_enabled (Send p vertex batch) candidate e = absurd candidate
+  has_enabled (Receive from p) candidate e = (below _ from (λ h. e.free NoProcessor (inl h)), e.free QueueEmpty)
+  has_enabled (Take p edge t value) candidate e = e.free NoRecord
+  has_enabled (Notice p vertex t) candidate e = e.free NoRequest
+  has_enabled (Broadcast p Whole) candidate e = e.free NothingToSend
+  has_enabled (Broadcast p (Points points)) candidate e = absurd candidate
+
+  pub covers_has : (y : Step A) → Has s y → Contains (candidates_of s (performer y)) y
   unfolding candidates_of
-  covers_own (Feed p vertex values _) candidate e = absurd candidate
-  covers_own (Release p vertex times) candidate e = absurd candidate
-  covers_own (Send p vertex batch) candidate e = absurd candidate
-  covers_own (Receive from p) candidate e =
-      Contains-append_left (receives s p) (takes s p ++ (notices s p ++ broadcasts s p)) (Receive from p)
-      (among_receives from p (below _ from (λ h. e.free NoProcessor (inl h))) (e.free QueueEmpty))
-  covers_own (Take p edge t value) candidate e =
+  covers_has (Feed p vertex values _) has = absurd has
+  covers_has (Release p vertex times) has = absurd has
+  covers_has (Send p vertex batch) has = absurd has
+  covers_has (Receive from p) has =
+      Contains-append_left (receives s p) (takes s p ++ (notices s p ++ broadcasts s p)) (Receive from p) (among_receives from p has.0 has.1)
+  covers_has (Take p edge t value) has =
       Contains-append_right (receives s p) (takes s p ++ (notices s p ++ broadcasts s p)) (Take p edge t value)
       (Contains-append_left (takes s p) (notices s p ++ broadcasts s p) (Take p edge t value)
       (key_among value_at_cmp value_at_exact (take_of p) (record_key edge t value) (entries (processor s p).records)
-      (not_zero _ (λ z. e.free NoRecord (at-entries (processor s p).records (record_key edge t value) ∙ z)))))
-  covers_own (Notice p vertex t) candidate e =
+      (not_zero _ (λ z. has (at-entries (processor s p).records (record_key edge t value) ∙ z)))))
+  covers_has (Notice p vertex t) has =
       Contains-append_right (receives s p) (takes s p ++ (notices s p ++ broadcasts s p)) (Notice p vertex t)
       (Contains-append_right (takes s p) (notices s p ++ broadcasts s p) (Notice p vertex t)
       (Contains-append_left (notices s p) (broadcasts s p) (Notice p vertex t)
       (key_among point_cmp point_exact (notice_of p) (point_at vertex t) (fin.entries (processor s p).requests)
-      (λ z. e.free NoRequest (fin.get-entries (processor s p).requests (point_at vertex t) ∙ z)))))
-  covers_own (Broadcast p Whole) candidate e =
+      (λ z. has (fin.get-entries (processor s p).requests (point_at vertex t) ∙ z)))))
+  covers_has (Broadcast p Whole) has =
       Contains-append_right (receives s p) (takes s p ++ (notices s p ++ broadcasts s p)) (Broadcast p Whole)
       (Contains-append_right (takes s p) (notices s p ++ broadcasts s p) (Broadcast p Whole)
       (Contains-append_right (notices s p) (broadcasts s p) (Broadcast p Whole)
-      (among_broadcasts p (processor s p).unsent (e.free NothingToSend))))
-  covers_own (Broadcast p (Points points)) candidate e = absurd candidate
+      (among_broadcasts p (processor s p).unsent has)))
+  covers_has (Broadcast p (Points points)) has = absurd has
 
   -- ---- the candidates of all processors
 
@@ -177,20 +198,14 @@ module _ {A : Type 0} (s : ClusterState) where
       kinds = in_each (candidates_if s only) (IsAmong only) (λ p. all_among p only) ps;
       covers = λ x is e.
           among_each (candidates_if s only) (performer x) ps x (all (performer x) (performer_there x e))
-          (subst (λ b. Contains (cond b (candidates_of s (performer x)) []) x) (sym is.1) (covers_own x is.0 e));
+          (subst (λ b. Contains (cond b (candidates_of s (performer x)) []) x) (sym is.1) (covers_has x (has_enabled x is.0 e)));
     }
 
     pub complete_among : AreComplete {A = A} s only (candidates_among s only)
     complete_among = complete (range_with_len 0 (length s.processors)) (λ p lt. in_range 0 (length s.processors) p (omega arith) (omega (arith, lt)))
 
     pub complete_from : (turn : ℕ) → AreComplete {A = A} s only (candidates_from s turn only)
-    complete_from turn = complete (from_turn (length s.processors) turn) (all (length s.processors) (turn % length s.processors))
-      where
-        all : (n first p : ℕ) → p < n → Contains (range_with_len first (n - first) ++ range_with_len 0 first) p
-        all n first p lt = elim (cases_lt p first) [
-          | inl less ↦ Contains-append_right (range_with_len first (n - first)) (range_with_len 0 first) p (in_range 0 first p (omega arith) (omega (arith, less)))
-          | inr most ↦ Contains-append_left (range_with_len first (n - first)) (range_with_len 0 first) p (in_range first (n - first) p most (omega (arith, most, lt)))
-        ]
+    complete_from turn = complete (from_turn (length s.processors) turn) (all_turns (length s.processors) turn)
 
 -- ---- the remaining candidates of a processor
 

@@ -25,12 +25,12 @@ module _ {A : Type 0} (s : ClusterState) where
   chooses_sooner (y ∷ xs) ys x (inl h) = inl h
   chooses_sooner (y ∷ xs) ys x (inr h) = inr (h.0, chooses_sooner xs ys x h.1)
 
-  none_refused : (xs : List (Step A)) → Chooses s xs None → AreRefused s xs
+  pub none_refused : (xs : List (Step A)) → Chooses s xs None → AreRefused s xs
   none_refused [] h = All-nil (λ y. IsEnabled s y → ⊥)
   none_refused (x ∷ xs) (inl h) = absurd (cc (h.1))
   none_refused (x ∷ xs) (inr h) = All-cons (λ y. IsEnabled s y → ⊥) x xs h.0 (none_refused xs h.1)
 
-  some_enabled : (xs : List (Step A)) (x : Step A) → Chooses s xs (Some x) → Contains xs x × IsEnabled s x
+  pub some_enabled : (xs : List (Step A)) (x : Step A) → Chooses s xs (Some x) → Contains xs x × IsEnabled s x
   some_enabled [] x h = absurd (cc (h))
   some_enabled (y ∷ xs) x (inl h) =
       let same : y ≡ x = cc (h.1) in

@@ -21,7 +21,7 @@ use Rattle.nd_protocol.specs.declared.step.Step.{Step}
 use Rattle.nd_protocol.specs.declared.step.Step.TheVariants.{Feed, Take, Notice, Release, Send, Broadcast, Receive}
 use Rattle.nd_protocol.specs.declared.refusal.Refusal.{Refusal}
 use Rattle.nd_protocol.specs.declared.refusal.Refusal.TheVariants.{NoProcessor, DeltaFull, NothingToSend, NotAdmissible, QueueEmpty, QueueFull, Memory}
-use Rattle.nd_steps.specs.Refusals.{LeavesUpright, ReceiveFails}
+use Rattle.nd_steps.specs.Refusals.{LeavesUpright, FrontFails}
 use Rattle.nd_steps.specs.Integers.{changed}
 use Rattle.nd_steps.specs.Counts.{SentChanges, ReceivedChanges}
 use Rattle.nd_steps.specs.Fronts.{received-front}
@@ -216,11 +216,11 @@ module _ (A : Type 0) (s : ClusterState) (from to : ℕ) (state : IsState s) (he
       by r lt h = h
 
   -- why nothing is received
-  pub receive_refused : (r : Refusal) → ReceiveFails (view s to) (queue s from to) r → r ≢ Memory → IsRefused {A = A} s (Receive from to) r
+  pub receive_refused : (r : Refusal) → FrontFails (view s to) (queue s from to) r → r ≢ Memory → IsRefused {A = A} s (Receive from to) r
   receive_refused QueueEmpty h other = queue_empty h
   receive_refused DeltaFull (c, front, large) other = delta_full c front large
   receive_refused Memory h other = absurd (other refl)
   receive_refused r h other = absurd h
 
-  pub receive_wants_memory : ReceiveFails (view s to) (queue s from to) Memory → MayWantMemory {A = A} s (Receive from to)
+  pub receive_wants_memory : FrontFails (view s to) (queue s from to) Memory → MayWantMemory {A = A} s (Receive from to)
   receive_wants_memory (c, front, room) = wants_memory c front

@@ -7,6 +7,7 @@ pub mod Releases
 pub mod FreeSteps
 pub mod CandidatesLemmas
 pub mod ChoiceLemmas
+pub mod OrderLemmas
 pub mod MovesLemmas
 pub mod SinksLemmas
 pub mod PartsLemmas

@@ -3,6 +3,7 @@ pub mod Drafted
 pub mod Starting
 pub mod Candidates
 pub mod Choice
+pub mod Order
 pub mod Moves
 pub mod Sinks
 pub mod Parts

@@ -3,6 +3,7 @@ ghost use Rattle.std.specs.Prelude.{◌≡◌, ◌<◌, ◌++◌, ◌∷◌, [],
 ghost use Rattle.nd_protocol.specs.State.{ClusterState};
 ghost use Rattle.nd_cluster.specs.Candidates.{AreComplete, AreListed, IsAnswer, IsAnswered, Lists, candidates, candidates_of};
 
+use crate::refuse::unless_memory;
 use crate::{Cluster, NoMemory, Refusal, Step};
 use nd_time::limits::MAX_TOLD;
 use std::alloc::{AllocError, Allocator, Global};
@@ -87,10 +88,7 @@ impl<A: Allocator + Copy> Cluster<A> {
         let Err(refusal) = self.changes_of(step) else {
             return Ok(None);
         };
-        if refusal == Refusal::Memory {
-            return Err(NoMemory);
-        }
-        Ok(Some(refusal))
+        Ok(Some(unless_memory(refusal)?))
     }
 
     // Returns a step with the answer of a plan.

@@ -4,9 +4,11 @@ ghost use Rattle.std.specs.List.{range_with_len};
 ghost use Rattle.nd_cluster.specs.Candidates.{AreComplete, candidates, candidates_among, candidates_if, candidates_of, candidates_on, may_run};
 ghost use Rattle.std.specs.Prelude.{◌++◌, OnOk};
 ghost use Rattle.nd_cluster.specs.Choice.{AreRefused, Chooses, Finds, Tries, turned_by, candidates_by, candidates_from};
+ghost use Rattle.nd_cluster.specs.Order.{CandidatesAreInTurn, IdleMeansRefused, ChoiceIsFirst, IsNext};
 ghost use Rattle.nd_cluster.specs.Records.{IsPlanned};
 
-use crate::{Cluster, NoMemory, Record, Refusal, Step};
+use crate::refuse::unless_memory;
+use crate::{Cluster, NoMemory, Record, Step};
 use nd_protocol::Processors;
 use std::alloc::{AllocError, Allocator};
 
@@ -20,6 +22,14 @@ fn may_run<A: Allocator>(only: Option<&Processors<A>>, p: u32) -> bool
     }
 }
 
+/// States that the list of candidates from a turn on is in order and complete, and that the choice among them is the
+/// first enabled candidate.
+pub fn candidates_are_in_turn<A: Allocator>()
+    ensures turn { CandidatesAreInTurn A }
+    ensures first { ChoiceIsFirst A }
+    ensures idle { IdleMeansRefused A }
+{}
+
 impl<A: Allocator + Copy> Cluster<A> {
     // Returns the record of a step, or none if the step is refused.
     pub(crate) fn tried(&self, step: Step<A>) -> Result<Option<Record<A>>, NoMemory>
@@ -27,8 +37,10 @@ impl<A: Allocator + Copy> Cluster<A> {
     {
         match self.plan_of(step) {
             Ok(record) => Ok(Some(record)),
-            Err(Refusal::Memory) => Err(NoMemory),
-            Err(_) => Ok(None),
+            Err(refusal) => {
+                let _ = unless_memory(refusal)?;
+                Ok(None)
+            }
         }
     }
 
@@ -107,12 +119,15 @@ impl<A: Allocator + Copy> Cluster<A> {
         ensures chosen { IfOk result (λ r. Chooses self.now
             (candidates_from self.now turn (option_copied only.entry))
             (option_map (λ (r : Record A). r.step) r)) }
+        ensures first { IfOk result (λ r. IsNext self.now turn (option_copied only.entry)
+            (option_map (λ (r : Record A). r.step) r)) }
         ensures planned { IfOk result (λ r. IfSome r (λ r. IsPlanned r self.now)) }
         ensures complete { AreComplete {A = A} self.now (option_copied only.entry)
             (candidates_from self.now turn (option_copied only.entry)) }
         ensures none { IfOk result (λ r. IsNone r
             ↔ AreRefused {A = A} self.now (candidates_among self.now (option_copied only.entry))) }
     {
+        candidates_are_in_turn::<A>();
         self.first_from(turn, only)
     }
 
@@ -213,6 +228,7 @@ impl<A: Allocator + Copy> Cluster<A> {
 
     /// Returns the step of the record that `first_planned` returns if every processor may run.
     pub fn first_enabled(&self, turn: u64) -> Result<Option<Step<A>>, NoMemory>
+        ensures first { IfOk result (IsNext self.now turn None) }
         ensures chosen { IfOk result (Chooses self.now (candidates_from self.now turn None)) }
         ensures none { IfOk result (λ x. IsNone x
             ↔ AreRefused {A = A} self.now (candidates self.now)) }

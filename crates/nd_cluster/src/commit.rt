@@ -3,16 +3,17 @@ ghost use Rattle.std.specs.Prelude.{◌≡◌, OnOk, OnErr};
 ghost use Rattle.nd_protocol.specs.State.{ClusterState};
 ghost use Rattle.nd_protocol.specs.Steps.{stepped};
 ghost use Rattle.nd_protocol.specs.Invariant.{IsSettled, KeepsProtocol};
-ghost use Rattle.nd_cluster.specs.Records.{IsPlanned, Leads, IsCommitted, StaysFinished};
+ghost use Rattle.nd_cluster.specs.Records.{HeldAreNotPassed, IsPlanned, IsSent, Leads, IsCommitted, StaysFinished};
 
 use crate::Cluster;
-use nd_protocol::{NoMemory, protocol_is_safe, steps_keep_protocol};
+use nd_protocol::{NoMemory, protocol_is_safe, sends_are_later, steps_keep_protocol};
 use nd_steps::{Record, commit_record, undo_record};
 use std::alloc::Allocator;
 
 impl<A: Allocator + Copy> Cluster<A> {
-    /// Executes the step of a record that was planned in this state. If the cluster has the protocol
-    /// invariant, what is finished stays finished (FORTE 2013). After an error the cluster is as it was.
+    /// Executes the step of a record that was planned in this state. A send makes its records, all later than its
+    /// capability. If the cluster has the protocol invariant, what is finished stays finished, and no view has passed what
+    /// a request or a record that was sent could result in (FORTE 2013). After an error the cluster is as it was.
     pub fn commit(&mut self, planned: &Record<A>) -> Result<(), NoMemory>
         requires { IsPlanned planned.now self.old }
         ensures step { OnOk result (self.new ≡ stepped self.old planned.now.step) }
@@ -20,10 +21,13 @@ impl<A: Allocator + Copy> Cluster<A> {
         ensures settled { OnOk result (IsSettled self.old → IsSettled self.new) }
         ensures protocol { OnOk result (KeepsProtocol self.old → KeepsProtocol self.new) }
         ensures finished { OnOk result (KeepsProtocol self.old → StaysFinished self.old self.new) }
+        ensures held { OnOk result (KeepsProtocol self.old → HeldAreNotPassed self.new) }
+        ensures sent { OnOk result (IsSent self.old self.new planned.now.step) }
         ensures err { OnErr result (self.new ≡ self.old) }
     {
         protocol_is_safe::<A>();
         steps_keep_protocol::<A>();
+        sends_are_later::<A>();
         let Ok(()) = commit_record(&mut self.parts, planned) else {
             return Err(NoMemory);
         };

@@ -24,6 +24,7 @@ mod text;
 mod work;
 
 pub use candidate::{Candidate, CandidateList, Candidates};
+pub use choice::candidates_are_in_turn;
 pub use cluster::Cluster;
 pub use moves::Allowed;
 pub use nd_paths::ArrivalTime;

@@ -1,5 +1,5 @@
 //! Why steps are refused: tests in the order of the refusals' numbers (this project's own rule).
-ghost use Rattle.std.specs.Prelude.{◌≡◌, ◌↔◌, ◌<◌, IfOk, IfErr, OnOk, IsTrue, Some, length};
+ghost use Rattle.std.specs.Prelude.{◌≡◌, ◌≢◌, ◌↔◌, ◌<◌, IfOk, IfErr, OnOk, OnErr, IsTrue, Some, length};
 ghost use Rattle.std.specs.FinMap as fin;
 ghost use Rattle.nd_graph.specs.declared.op.Op.TheVariants as operator;
 ghost use Rattle.nd_protocol.specs.State.{processor};
@@ -7,17 +7,29 @@ ghost use Rattle.nd_protocol.specs.Steps.{target_of, point_at, epoch_of};
 ghost use Rattle.nd_protocol.specs.Times.{GoesLater};
 ghost use Rattle.nd_protocol.specs.Enabled.{GoesBack, GoesNowhere, IsFreeBelow, IsRefused};
 ghost use Rattle.nd_protocol.specs.declared.step.Step.TheVariants.{Feed as Feeding, Release as Releasing, Send as Posting};
+ghost use Rattle.nd_protocol.specs.declared.refusal.Refusal.TheVariants.{Memory as OutOfMemory};
 ghost use Rattle.nd_cluster.specs.Drafted.{Works, take_of, notice_of, IsWithinRules, IsLastRefusal};
 
 use crate::{Cluster, Next, Refusal, Step};
 use nd_graph::Op;
 use nd_paths::Pointstamp;
 use nd_processor::ValueAt;
-use nd_protocol::{Batch, Times};
+use nd_protocol::{Batch, NoMemory, Times};
 use nd_steps::op_at;
 use nd_time::Timestamp;
 use nd_time::limits::MAX_VALUES;
 use std::alloc::Allocator;
+
+// Returns a refusal that does not say that memory was refused.
+pub(crate) fn unless_memory(refusal: Refusal) -> Result<Refusal, NoMemory>
+    ensures ok { IfOk result (λ r. (r ≡ refusal) × (refusal ≢ OutOfMemory)) }
+    ensures err { OnErr result (refusal ≡ OutOfMemory) }
+{
+    if refusal == Refusal::Memory {
+        return Err(NoMemory);
+    }
+    Ok(refusal)
+}
 
 fn is_input(op: Op) -> bool
     ensures { IsTrue result ↔ (op ≡ operator.Input) }

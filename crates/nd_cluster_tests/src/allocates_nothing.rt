@@ -165,8 +165,6 @@ fn processor_tells<A: Allocator + Copy>(processor: &Processor<A>, key: &ValueAt)
     counts == (1, 1, 1, 1, 2, 3)
         && processor.records_at(&key.point) == 2
         && processor.has_request(&key.point)
-        && processor.first_record().is_some()
-        && processor.first_request().is_some()
         && (processor.token(0), item(processor)) == (Some(1), Some(3))
 }
 
@@ -188,7 +186,7 @@ fn gives_up<A: Allocator + Copy>(
     set_item(processor, None)?.ok()?;
     move_token(processor, None).ok()?;
     move_token(processor, Some(0)).ok()?;
-    Some(processor.first_record().is_none() && processor.unsent().len() == 1)
+    Some(processor.records().count() == 0 && processor.unsent().len() == 1)
 }
 
 #[tactic(auto, using(crate::proofs::Parts::is_part))]

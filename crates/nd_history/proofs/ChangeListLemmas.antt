@@ -10,7 +10,7 @@ use Rattle.nd_time.specs.Limits.{max_told}
 use Rattle.nd_history.specs.Changes.{is_other, positions, changed, changes_between}
 use Rattle.nd_history.specs.ChangeList.{AreFirstChanges}
 use Rattle.nd_history.specs.History.{AreChanges, none_yet, no_change, one_change, AreFirst, AreAll, IsHistory}
-use Rattle.nd_history.specs.declared.change_list.Changed.{Changed}
+use Rattle.nd_timeline.specs.declared.changed.Changed.{Changed}
 use Rattle.nd_history.specs.declared.change_list.ChangeList.{ChangeList}
 
 -- a range of one number more

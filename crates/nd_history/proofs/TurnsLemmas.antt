@@ -9,7 +9,7 @@ use Rattle.nd_history.specs.Least.{NoHit, IsLeast}
 use Rattle.nd_history.specs.Turns.{Differs, IsTurn, AreTurns, AreFirstTurns, AreAllTurns, AreListed}
 use Rattle.nd_history.proofs.WalkLemmas.{no_hit_more}
 use Rattle.nd_history.specs.History.{ShowsIf, AreChanges, none_yet, no_change, one_change, AreFirst, AreAll, IsHistory}
-use Rattle.nd_history.specs.declared.change_list.Changed.{Changed}
+use Rattle.nd_timeline.specs.declared.changed.Changed.{Changed}
 use Rattle.nd_history.specs.declared.change_list.ChangeList.{ChangeList}
 use Rattle.nd_history.specs.declared.turn_list.Turns.{Turns}
 

@@ -1,7 +1,7 @@
 -- What is listed of the changes of a view (this project's own rule).
 use Rattle.std.specs.Prelude.{◌≡◌, ◌↔◌, ◌<◌, List, length, take, IsTrue}
 use Rattle.nd_time.specs.Limits.{max_told}
-use Rattle.nd_history.specs.declared.change_list.Changed.{Changed}
+use Rattle.nd_timeline.specs.declared.changed.Changed.{Changed}
 use Rattle.nd_history.specs.declared.change_list.ChangeList.{ChangeList}
 
 -- the first changes, in order, and whether there are more

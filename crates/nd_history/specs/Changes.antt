@@ -3,7 +3,7 @@ use Rattle.std.specs.Prelude.{ℕ, ◌+◌, ◌-◌, ℤ, Bool, not, List, map, 
 use Rattle.std.specs.Coded.{Coded, code_by, coded×, coded_ℕ, coded_ℤ}
 use Rattle.std.specs.List.{range_with_len}
 use Rattle.std.specs.Ordering.{int_eq}
-use Rattle.nd_history.specs.declared.change_list.Changed.{Changed}
+use Rattle.nd_timeline.specs.declared.changed.Changed.{Changed}
 
 -- the entry at a position differs from the entry at the position before
 abbrev pub is_other : (ℕ → ℤ) → ℕ → Bool

@@ -5,7 +5,7 @@ use Rattle.nd_time.specs.Limits.{max_told}
 use Rattle.nd_protocol.specs.State.{ClusterState}
 use Rattle.nd_protocol.specs.Steps.{after}
 use Rattle.nd_timeline.specs.Timeline.{TimelineValue}
-use Rattle.nd_history.specs.declared.change_list.Changed.{Changed}
+use Rattle.nd_timeline.specs.declared.changed.Changed.{Changed}
 use Rattle.nd_history.specs.declared.change_list.ChangeList.{ChangeList}
 
 -- ---- what is observed

@@ -1,4 +1,3 @@
-pub mod Snapshot
 pub mod Least
 pub mod Pieces
 pub mod Claims

@@ -7,7 +7,7 @@ use Rattle.nd_protocol.specs.State.{view}
 use Rattle.nd_protocol.specs.Steps.{after}
 use Rattle.nd_timeline.specs.Timeline.{TimelineValue, cluster_of}
 use Rattle.nd_history.specs.Changes.{changes_between}
-use Rattle.nd_history.specs.declared.change_list.Changed.{Changed}
+use Rattle.nd_timeline.specs.declared.changed.Changed.{Changed}
 use Rattle.nd_history.specs.declared.fault.ChangesFault.{ChangesFault}
 use Rattle.nd_history.specs.declared.fault.ChangesFault.TheVariants.{NoProcessor, BadRange, NoSuchPoint, Memory}
 

@@ -1,17 +1,9 @@
 //! Lists of the changes of an entry.
 ghost use Rattle.std.specs.Prelude.{◌≡◌, [], ◌∷◌, ◌++◌, OnOk};
 
+use nd_timeline::Changed;
 use std::alloc::{AllocError, Allocator, Global};
 use std::marker::Model;
-
-/// A position at which an entry differs from the entry at the position before.
-#[derive(Clone, Copy, Drop)]
-pub struct Changed {
-    /// How many kept steps lead there.
-    pub position: u64,
-    /// The entry after them, 0 if there is none.
-    pub entry: i64,
-}
 
 /// A list of changes, in the order of their positions.
 #[derive(Drop)]
@@ -23,7 +15,7 @@ impl<A: Allocator> Model for Changes<A> {
     ghost use Rattle.std.specs.Prelude.{List};
     ghost use Rattle.std.specs.Coded.{coded_list};
     ghost use Rattle.nd_history.specs.Changes.{changed_code};
-    ghost use Rattle.nd_history.specs.declared.change_list.Changed.{Changed as Item};
+    ghost use Rattle.nd_timeline.specs.declared.changed.Changed.{Changed as Item};
 
     ghost Value = { List Item };
 

@@ -4,10 +4,10 @@ ghost use Rattle.nd_protocol.specs.State.{ClusterState};
 ghost use Rattle.nd_timeline.specs.Walks.{IsOn};
 ghost use Rattle.nd_history.specs.History.{IsHistory, shown_at};
 
-use crate::{ChangeList, Changed, Changes};
+use crate::{ChangeList, Changes};
 use nd_cluster::Cluster;
 use nd_time::limits::MAX_TOLD;
-use nd_timeline::{Timeline, Walk};
+use nd_timeline::{Changed, Timeline, Walk};
 use std::alloc::{AllocError, Allocator};
 
 /// What is observed of a cluster, as a number (this project's own rule).

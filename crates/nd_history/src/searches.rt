@@ -8,9 +8,9 @@ use crate::piece::{Positions, Scan};
 use crate::table::{first, results};
 use crate::team::search_all;
 use crate::work::Searched;
-use crate::{Gate, SearchFault, Snapshot};
+use crate::{Gate, SearchFault};
 use nd_breaks::Condition;
-use nd_timeline::Timeline;
+use nd_timeline::{Snapshot, Timeline};
 use std::alloc::{AllocError, Allocator};
 use std::thread::Threads;
 

@@ -1,7 +1,7 @@
 //! What is listed of the positions at which a condition begins or ceases to hold.
 ghost use Rattle.std.specs.Prelude.{◌≡◌, map, IfOk};
 
-use crate::Changed;
+use nd_timeline::Changed;
 use std::alloc::{AllocError, Allocator, Global};
 use std::marker::Model;
 

@@ -1,6 +1,6 @@
 //! Finite maps that may grow large: sorted lists while they are small, trees from then on.
-ghost use Rattle.std.specs.Prelude.{◌≡◌, ◌↔◌, ◌<◌, ◌^◌, [], OnOk, OnErr, IfOk, IsTrue, None, length, slice_get};
-ghost use Rattle.std.specs.Option.{ForSome, option_map};
+ghost use Rattle.std.specs.Prelude.{◌≡◌, ◌↔◌, ◌<◌, ◌^◌, [], OnOk, OnErr, IfOk, IsTrue, None, length};
+ghost use Rattle.std.specs.Option.{ForSome};
 ghost use Rattle.std.specs.FinMap.{find, put};
 ghost use Rattle.std.specs.Iterator.{at_most};
 ghost use Rattle.std.specs.Map.Iter.{ShowsInOrder, TakesFirst, deref_pair};
@@ -171,17 +171,6 @@ impl<K: Key, V: Copy, A: Allocator> GrowingMap<K, V, A> {
             Held::Many(tree) => LeftBetween::Many(tree.between(first, last)),
         };
         Between { left }
-    }
-
-    /// Returns the entry with the least key, or `None` if the map is empty.
-    pub fn first(&self) -> Option<(&K, V)>
-        ensures value { option_map (λ e. (e.0.now, e.1)) result ≡ slice_get self.now 0 }
-        ensures listed { IsListed K.cmp self.now }
-    {
-        match &self.held {
-            Held::Few(list) => list.first(),
-            Held::Many(tree) => tree.first(),
-        }
     }
 
     /// Returns the number of entries.

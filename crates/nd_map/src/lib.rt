@@ -1,8 +1,8 @@
 //! Finite maps, seen as lists of entries in the order of their keys: sorted lists, and trees.
 #![tactic(auto)]
 
-ghost use Rattle.std.specs.Prelude.{◌≡◌, ◌<◌, ◌≤◌, ◌↔◌, ◌^◌, [], OnOk, OnErr, IfOk, IfErr, IsTrue, None, length, not, slice_get};
-ghost use Rattle.std.specs.Option.{ForSome, option_map};
+ghost use Rattle.std.specs.Prelude.{◌≡◌, ◌<◌, ◌≤◌, ◌↔◌, ◌^◌, [], OnOk, OnErr, IfOk, IfErr, IsTrue, None, length, not};
+ghost use Rattle.std.specs.Option.{ForSome};
 ghost use Rattle.std.specs.FinMap.{IsAntisymmetric, find, nat_cmp-IsAntisymmetric, put};
 ghost use Rattle.std.specs.List.{filter};
 ghost use Rattle.std.specs.BTreeMap.Range.{IsLeBy, is_from_start, is_past_end, entries_between};
@@ -187,17 +187,6 @@ impl<K: Key, V: Copy, A: Allocator> SortedMap<K, V, A> {
     {
         if let Ok(i) = place(&self.entries, key) {
             self.entries.remove(i);
-        }
-    }
-
-    // Returns the entry with the least key, or `None` if the map is empty.
-    pub(crate) fn first(&self) -> Option<(&K, V)>
-        ensures value { option_map (λ e. (e.0.now, e.1)) result ≡ slice_get self.now 0 }
-        ensures listed { IsListed K.cmp self.now }
-    {
-        match self.entries.first() {
-            Some(entry) => Some((&entry.0, entry.1)),
-            None => None,
         }
     }
 

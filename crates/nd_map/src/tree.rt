@@ -1,6 +1,6 @@
 //! Finite maps stored in a tree, for maps that have grown large.
-ghost use Rattle.std.specs.Prelude.{◌≡◌, ◌<◌, ◌^◌, [], OnOk, OnErr, IfOk, None, length, slice_get};
-ghost use Rattle.std.specs.Option.{ForSome, option_map};
+ghost use Rattle.std.specs.Prelude.{◌≡◌, ◌<◌, ◌^◌, [], OnOk, OnErr, IfOk, None, length};
+ghost use Rattle.std.specs.Option.{ForSome};
 ghost use Rattle.std.specs.FinMap.{find, put};
 ghost use Rattle.std.specs.Map.Iter.{ShowsInOrder, deref_pair};
 ghost use Rattle.std.specs.BTreeMap.Range.{IsLeBy, entries_between};
@@ -84,17 +84,6 @@ impl<K: Key, V: Copy, A: Allocator> TreeMap<K, V, A> {
         ensures listed { IsListed K.cmp self.now }
     {
         self.tree.range(first..=last)
-    }
-
-    // Returns the entry with the least key, or `None` if the map is empty.
-    pub(crate) fn first(&self) -> Option<(&K, V)>
-        ensures value { option_map (λ e. (e.0.now, e.1)) result ≡ slice_get self.now 0 }
-        ensures listed { IsListed K.cmp self.now }
-    {
-        match self.tree.first_key_value() {
-            Some((key, value)) => Some((key, *value)),
-            None => None,
-        }
     }
 
     // Returns the number of entries.

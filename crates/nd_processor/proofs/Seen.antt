@@ -1,9 +1,7 @@
 -- The state that the stored lists of a processor represent: lookups and edits.
 use Rattle.std.proofs.Common.{◌≡◌, ◌≤◌, ◌<◌, ℕ, ◌+◌, ◌-◌, ℤ, ◌+ℤ◌, pos, neg_ℤ, unsigned_abs, List, length, map, Option, Some, None, sym, ap, subst, ◌∙◌}
-use Rattle.std.specs.Option.{option_map}
-use Rattle.std.specs.Prelude.{slice_get, slice_set, slice_index_or, OnOk, OnErr, Result, Ok, Err, ◌↔◌, IsTrue, is_some, Bool}
+use Rattle.std.specs.Prelude.{slice_set, slice_index_or, OnOk, OnErr, Result, Ok, Err, ◌↔◌, IsTrue, is_some, Bool}
 use Rattle.std.proofs.lemmas.List.{get_or_default, set-get_or}
-use Rattle.std.proofs.lemmas.Option.{slice_get-map}
 use Rattle.std.proofs.lemmas.Cmp.{nat_cmp_total}
 use Rattle.std.specs.Ordering.{nat_cmp}
 use Rattle.std.specs.FinMap as fin
@@ -161,11 +159,6 @@ module _ (records : List (ValueAt × ℕ)) (requests : List (Pointstamp × Unit 
   tokens_back k old new after had is =
       ap (λ (q : ProcessorState). record q { tokens = with_value q.tokens k old }) is
       ∙ (λ i. record state { tokens = value-back nat_cmp_total fin.nat_cmp-IsAntisymmetric state.tokens k old new had i })
-
-  pub first_requested : IsListed point_cmp requests → (x : Option Pointstamp) (y : Option (Pointstamp × Unit {0})) → y ≡ slice_get requests 0 → x ≡ option_map (λ e. e.0) y → x ≡ slice_get (fin.keys state.requests) 0
-  first_requested h x y is same =
-      same ∙ ap (option_map (λ e. e.0)) is ∙ sym (slice_get-map (λ (e : Pointstamp × Unit {0}). e.0) requests 0)
-      ∙ ap (λ (es : List (Pointstamp × Unit {0})). slice_get (map (λ e. e.0) es) 0) (requests_listed h)
 
   -- an item of a vertex has another number
   pub items_set : (vertex : ℕ) (k : ItemKey) (n : Option ℤ) (m m' : Items) → vertex < length items → m ≡ slice_index_or items vertex m → m' ≡ with_item m k n

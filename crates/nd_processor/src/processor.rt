@@ -1,6 +1,5 @@
 //! A processor: its maps, readers of the maps, and pairs of edits that undo each other.
-ghost use Rattle.std.specs.Prelude.{◌≡◌, ◌≢◌, ◌↔◌, ◌≤◌, ◌<◌, ◌^◌, ◌+◌, ◌+ℤ◌, ℕ, ℤ, pos, neg_ℤ, unsigned_abs, Err, None, Some, IfOk, OnOk, OnErr, IsTrue, length, map, slice_get, slice_set};
-ghost use Rattle.std.specs.Option.{option_map};
+ghost use Rattle.std.specs.Prelude.{◌≡◌, ◌≢◌, ◌↔◌, ◌≤◌, ◌<◌, ◌^◌, ◌+◌, ◌+ℤ◌, ℕ, ℤ, pos, neg_ℤ, unsigned_abs, Err, None, Some, IfOk, OnOk, OnErr, IsTrue, length, map, slice_set};
 ghost use Rattle.std.specs.FinMap as fin;
 ghost use Rattle.std.specs.Map.Iter.{ShowsInOrder, deref_pair};
 ghost use Rattle.nd_time.specs.Limits.{max_count};
@@ -136,14 +135,6 @@ impl<A: Allocator + Copy> Processor<A> {
         self.records.iter()
     }
 
-    /// Returns the least record and its count.
-    pub fn first_record(&self) -> Option<(&ValueAt, u64)>
-        ensures { option_map (λ e. (e.0.now, e.1)) result
-            ≡ slice_get (counts_of self.now.records) 0 }
-    {
-        self.records.first()
-    }
-
     /// Returns whether there is a request at a vertex's pointstamp.
     pub fn has_request(&self, point: &Pointstamp) -> bool
         ensures { IsTrue result ↔ (fin.get self.now.requests point.now ≡ Some tt) }
@@ -158,16 +149,6 @@ impl<A: Allocator + Copy> Processor<A> {
         ensures fits { length (fin.entries self.now.requests) < 2 ^ 63 }
     {
         self.requests.iter()
-    }
-
-    /// Returns the least pointstamp of a request.
-    pub fn first_request(&self) -> Option<&Pointstamp>
-        ensures { option_map (λ p. p.now) result ≡ slice_get (fin.keys self.now.requests) 0 }
-    {
-        match self.requests.first() {
-            Some((point, _)) => Some(point),
-            None => None,
-        }
     }
 
     /// Returns the epoch of an input vertex's token, or `None` if the input is closed.

@@ -1,6 +1,5 @@
 //! Counts of keys.
-ghost use Rattle.std.specs.Prelude.{ℕ, ◌≡◌, ◌≢◌, ◌↔◌, ◌≤◌, ◌<◌, ◌^◌, ◌+◌, ◌-◌, [], None, Err, IfOk, OnOk, OnErr, slice_get, length};
-ghost use Rattle.std.specs.Option.{option_map};
+ghost use Rattle.std.specs.Prelude.{ℕ, ◌≡◌, ◌≢◌, ◌↔◌, ◌≤◌, ◌<◌, ◌^◌, ◌+◌, ◌-◌, [], None, Err, IfOk, OnOk, OnErr, length};
 ghost use Rattle.std.specs.FinMap.{find};
 ghost use Rattle.std.specs.Map.Iter.{ShowsInOrder, deref_pair};
 ghost use Rattle.std.specs.BTreeMap.Range.{IsLeBy};
@@ -103,14 +102,6 @@ impl<K: Key, A: Allocator> Tally<K, A> {
         ensures kept { IsKept K.cmp self.now }
     {
         self.map.between(first, last)
-    }
-
-    // Returns the least key with its count.
-    pub(crate) fn first(&self) -> Option<(&K, u64)>
-        ensures value { option_map (λ e. (e.0.now, e.1)) result ≡ slice_get self.now 0 }
-        ensures kept { IsKept K.cmp self.now }
-    {
-        self.map.first()
     }
 }
 

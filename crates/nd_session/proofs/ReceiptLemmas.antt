@@ -11,7 +11,7 @@ use Rattle.nd_protocol.specs.Invariant.{KeepsProtocol}
 use Rattle.nd_timeline.specs.Timeline.{opened}
 use Rattle.nd_timeline.specs.Moves.{MachineValue, without_breaks}
 use Rattle.nd_timeline.specs.declared.command.Command.{Command}
-use Rattle.nd_history.specs.Snapshot.{SnapshotValue, snapshot_of}
+use Rattle.nd_timeline.specs.Snapshot.{SnapshotValue, snapshot_of}
 use Rattle.nd_session.specs.declared.receipt.Receipt.{Receipt}
 use Rattle.nd_session.specs.declared.fault.SessionFault.{SessionFault}
 use Rattle.nd_session.specs.declared.shared.Shared.{Shared}

@@ -7,7 +7,7 @@ use Rattle.nd_protocol.specs.Fitting.{IsState}
 use Rattle.nd_protocol.specs.Invariant.{KeepsProtocol}
 use Rattle.nd_timeline.specs.Moves.{MachineValue}
 use Rattle.nd_timeline.specs.declared.command.Command.{Command}
-use Rattle.nd_history.specs.Snapshot.{SnapshotValue}
+use Rattle.nd_timeline.specs.Snapshot.{SnapshotValue}
 use Rattle.nd_session.specs.Codes.{receipt_code}
 use Rattle.nd_session.specs.Log.{IsStart, IsLegal, opening_of}
 use Rattle.nd_session.specs.declared.receipt.Receipt.{Receipt}

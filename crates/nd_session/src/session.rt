@@ -7,8 +7,7 @@ ghost use Rattle.nd_session.specs.Faults.{CommandMayFail, CopyMayFail, EnterMayF
 
 use crate::shared::Shared;
 use crate::{Client, CloseFault, Log, Receipt, SessionFault, State};
-use nd_history::Snapshot;
-use nd_timeline::Command;
+use nd_timeline::{Command, Snapshot};
 use std::alloc::{Allocator, Global};
 use std::sync::{Mutex, Wait};
 

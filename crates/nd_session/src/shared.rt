@@ -2,15 +2,14 @@
 ghost use Rattle.std.specs.Prelude.{◌≡◌, ◌+◌, ◌<◌, [], length, slice_get, IfOk, IfErr, OnOk, OnErr, MatchBool};
 ghost use Rattle.std.specs.Option.{option_map_or};
 ghost use Rattle.nd_time.specs.Limits.{max_clients};
-ghost use Rattle.nd_history.specs.Snapshot.{snapshot_of};
+ghost use Rattle.nd_timeline.specs.Snapshot.{snapshot_of};
 ghost use Rattle.nd_session.specs.Answered.{IsAnswered};
 ghost use Rattle.nd_session.specs.Clients.{Gains, Holds, last_of, HoldsLast, IsHistory, IsKnown, IsUnknown};
 ghost use Rattle.nd_session.specs.Faults.{TestFails, CommandFails, CopyFails, EnterFails};
 
 use crate::{Client, Receipt, SessionFault, State};
-use nd_history::Snapshot;
 use nd_time::limits::MAX_CLIENTS;
-use nd_timeline::Command;
+use nd_timeline::{Command, Snapshot};
 use std::alloc::{AllocError, Allocator, Global};
 
 // A `State`, and how many clients have entered.

@@ -4,11 +4,13 @@
 ghost use Rattle.std.specs.Prelude.{◌≡◌};
 ghost use Rattle.nd_state_json.specs.StateText.{name_at as name_in};
 
+mod laws;
 mod sent;
 mod state;
 
+pub use laws::values_determine_states;
 use nd_graph::Graph;
-pub use sent::{send_entries, send_integer, send_integers, send_name, send_points, send_time};
+pub use sent::{send_entries, send_integer, send_name, send_time};
 pub use state::{send_counts, send_state};
 use std::alloc::Allocator;
 

@@ -25,18 +25,6 @@ pub fn send_integer<S: Serializer>(out: &mut S, n: i64) -> Result<(), S::Error>
     }
 }
 
-/// Sends a list of numbers, which may be negative.
-pub fn send_integers<S: Serializer>(out: &mut S, numbers: &[i64]) -> Result<(), S::Error>
-    ensures { OnOk result (SendsValue (row (map whole numbers.now))
-        (S.written out.old) (S.written out.new)) }
-{
-    out.begin_seq(Some(numbers.len()))?;
-    for n in numbers {
-        send_integer(out, *n)?;
-    }
-    out.end_seq()
-}
-
 // Sends the counters of a time.
 fn send_counters<S: Serializer>(out: &mut S, counters: &[u32]) -> Result<(), S::Error>
     ensures { OnOk result (SendsEach (map natural counters.now)
@@ -84,22 +72,6 @@ fn send_point<S: Serializer, A: Allocator>(
     out.begin_seq(Some(2))?;
     send_name(out, graph, point.location)?;
     send_time(out, &point.time)?;
-    out.end_seq()
-}
-
-/// Sends pointstamps in the given order.
-pub fn send_points<S: Serializer, A: Allocator>(
-    out: &mut S,
-    graph: &Graph<A>,
-    points: &[Pointstamp],
-) -> Result<(), S::Error>
-    ensures { OnOk result (SendsValue (row (map (point_data graph.now) points.now))
-        (S.written out.old) (S.written out.new)) }
-{
-    out.begin_seq(Some(points.len()))?;
-    for point in points {
-        send_point(out, graph, point)?;
-    }
     out.end_seq()
 }
 

@@ -28,11 +28,11 @@ moved f p vertex n =
     (token ∷ cond f.late (comes ∷ announced f p n ++ goes ∷ []) (goes ∷ comes ∷ announced f p n))
 
 -- the changes of a feed, in the order in which they are applied; none if the step is not a feed
-abbrev pub fed_changes : {A : Type 0} → Step A → FedAt → List Change
-fed_changes (Feed p vertex values _) f = map (arrived f) values ++ moved f p vertex (length values)
-fed_changes (Take p edge t value) f = []
-fed_changes (Notice p vertex t) f = []
-fed_changes (Release p vertex times) f = []
-fed_changes (Send p vertex batch) f = []
-fed_changes (Broadcast p part) f = []
-fed_changes (Receive from to) f = []
+abbrev pub keyed_feed : {A : Type 0} → Step A → FedAt → List Change
+keyed_feed (Feed p vertex values _) f = map (arrived f) values ++ moved f p vertex (length values)
+keyed_feed (Take p edge t value) f = []
+keyed_feed (Notice p vertex t) f = []
+keyed_feed (Release p vertex times) f = []
+keyed_feed (Send p vertex batch) f = []
+keyed_feed (Broadcast p part) f = []
+keyed_feed (Receive from to) f = []

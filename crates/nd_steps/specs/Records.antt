@@ -8,7 +8,7 @@ use Rattle.nd_protocol.specs.Fitting.{IsState}
 use Rattle.nd_protocol.specs.declared.step.Step.{Step}
 use Rattle.nd_steps.specs.Changes.{IsRunnable, applied}
 use Rattle.nd_steps.specs.Flows.{keyed_flow}
-use Rattle.nd_steps.specs.Feeds.{fed_changes}
+use Rattle.nd_steps.specs.Feeds.{keyed_feed}
 use Rattle.nd_steps.specs.declared.change.Change.{Change}
 use Rattle.nd_steps.specs.declared.record.Changes.{Changes}
 use Rattle.nd_steps.specs.declared.record.Changes.TheVariants.{Each, Flowed, Fed, Sent, Received}
@@ -18,7 +18,7 @@ use Rattle.nd_steps.specs.declared.record.Record.{Record}
 abbrev pub keyed : {A : Type 0} → Step A → Changes A → List Change
 keyed x (Each changes) = changes.items
 keyed x (Flowed flow) = keyed_flow x flow
-keyed x (Fed at) = fed_changes x at
+keyed x (Fed at) = keyed_feed x at
 keyed x (Sent p part) = []
 keyed x (Received from to change) = []
 

@@ -34,19 +34,19 @@ abbrev pub LeavesAlone : Dataflow → ProcessorState → DeltaValue → Pointsta
 LeavesAlone g q c x = IsLeast (IsUnsupported (IsStrictlyBefore g) (Supports g q) (at (minus q.unsent c))) x
 
 -- why c, the part that a broadcast names, is not sent
-abbrev pub SendFails : Dataflow → ProcessorState → DeltaValue → Refusal → Type 0
-SendFails g q c NothingToSend = c ≡ none
-SendFails g q c (NotAdmissible x) = (c ≢ none) × LeavesAlone g q c x
-SendFails g q c Memory = c ≢ none
-SendFails g q c _ = ⊥
+abbrev pub ChosenFails : Dataflow → ProcessorState → DeltaValue → Refusal → Type 0
+ChosenFails g q c NothingToSend = c ≡ none
+ChosenFails g q c (NotAdmissible x) = (c ≢ none) × LeavesAlone g q c x
+ChosenFails g q c Memory = c ≢ none
+ChosenFails g q c _ = ⊥
 
 -- why a part of what a processor has to send is not sent
 abbrev pub PartFails : {A : Type 0} → Dataflow → ProcessorState → Part A → Refusal → Type 0
-PartFails g q part r = SendFails g q (chosen part q.unsent) r
+PartFails g q part r = ChosenFails g q (chosen part q.unsent) r
 
 -- why nothing is received from a queue into a view
-abbrev pub ReceiveFails : DeltaValue → List DeltaValue → Refusal → Type 0
-ReceiveFails v q QueueEmpty = q ≡ []
-ReceiveFails v q DeltaFull = (c : DeltaValue) × (slice_get q 0 ≡ Some c) × IsTooLarge (plus v c)
-ReceiveFails v q Memory = (c : DeltaValue) × (slice_get q 0 ≡ Some c) × (IsTooLarge (plus v c) → ⊥)
-ReceiveFails v q _ = ⊥
+abbrev pub FrontFails : DeltaValue → List DeltaValue → Refusal → Type 0
+FrontFails v q QueueEmpty = q ≡ []
+FrontFails v q DeltaFull = (c : DeltaValue) × (slice_get q 0 ≡ Some c) × IsTooLarge (plus v c)
+FrontFails v q Memory = (c : DeltaValue) × (slice_get q 0 ≡ Some c) × (IsTooLarge (plus v c) → ⊥)
+FrontFails v q _ = ⊥

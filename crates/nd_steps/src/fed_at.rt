@@ -1,6 +1,6 @@
 //! Feeds that are kept in little memory: the step determines most of the changes.
 ghost use Rattle.std.specs.Prelude.{◌≡◌, ◌≤◌, ◌+◌, ◌++◌, IfSome, length};
-ghost use Rattle.nd_steps.specs.Feeds.{arrived as arrived_at, announced, moved, fed_changes};
+ghost use Rattle.nd_steps.specs.Feeds.{arrived as arrived_at, announced, moved, keyed_feed};
 
 use crate::feed::moves;
 use crate::keyed::{Keyed, MOST};
@@ -121,7 +121,7 @@ impl FedAt {
 
     // Returns the changes of a step, in order; none if the step is not a feed.
     pub(crate) fn keyed<'a, A: Allocator>(&self, step: &'a Step<A>) -> Keyed<'a>
-        ensures { result ≡ fed_changes step.now self.now }
+        ensures { result ≡ keyed_feed step.now self.now }
     {
         match step {
             Step::Feed {
@@ -140,7 +140,7 @@ impl FedAt {
 
     // Returns what stands for these changes of a step, or `None` if it finds nothing that does.
     pub(crate) fn of<A: Allocator>(step: &Step<A>, changes: &[Change]) -> Option<FedAt>
-        ensures { IfSome result (λ f. fed_changes step.now f ≡ changes.now) }
+        ensures { IfSome result (λ f. keyed_feed step.now f ≡ changes.now) }
     {
         let Step::Feed { vertex, .. } = step else {
             return None;

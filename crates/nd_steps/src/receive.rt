@@ -5,7 +5,7 @@ ghost use Rattle.nd_delta.specs.Delta.{at, plus, IsTooLarge};
 ghost use Rattle.nd_protocol.specs.State.{view, queue};
 ghost use Rattle.nd_protocol.specs.Exchange.{received};
 ghost use Rattle.nd_protocol.specs.Fitting.{IsState};
-ghost use Rattle.nd_steps.specs.Refusals.{ReceiveFails};
+ghost use Rattle.nd_steps.specs.Refusals.{FrontFails};
 ghost use Rattle.nd_steps.specs.Records.{CanReceive, Receives, CameFrom, IsBackAt};
 
 use nd_delta::Delta;
@@ -35,7 +35,7 @@ pub fn planned_front<A: Allocator + Copy>(
     requires receiver { to < length parts.now.processors }
     ensures front { IfOk result (λ c. slice_get (queue parts.now from to) 0 ≡ Some c) }
     ensures room { IfOk result (λ c. IsTooLarge (plus (view parts.now to) c) → ⊥) }
-    ensures refused { IfErr result (ReceiveFails (view parts.now to) (queue parts.now from to)) }
+    ensures refused { IfErr result (FrontFails (view parts.now to) (queue parts.now from to)) }
 {
     let mesh = parts.mesh();
     let Some(front) = mesh.get(from, to, 0) else {

@@ -1,5 +1,12 @@
-//! The limits of the program (this project's own rule). No other file states their numbers; contracts cite them through
-//! `specs/Limits.antt`.
+//! The limits of the program (this project's own rule). Contracts cite them by their names in `specs/Limits.antt`, and
+//! `limits_are_fixed` states the number of each.
+
+ghost use Rattle.std.specs.Prelude.{◌≡◌};
+ghost use Rattle.nd_time.specs.Limits.{max_depth, max_depth_v1, max_locations, max_locations_v5, max_ports};
+ghost use Rattle.nd_time.specs.Limits.{max_name, least_of_name, greatest_of_name, max_processors, max_processors_v1};
+ghost use Rattle.nd_time.specs.Limits.{max_count, max_counter, max_values, max_queue, max_kept, max_breaks, max_literals};
+ghost use Rattle.nd_time.specs.Limits.{max_log, max_clients, max_workers, piece_length, max_reached};
+ghost use Rattle.nd_time.specs.Limits.{max_line, max_input, max_told};
 
 /// The greatest depth of nested loops.
 pub const MAX_DEPTH: usize = 6;
@@ -66,3 +73,32 @@ pub const MAX_INPUT: usize = 268_435_456;
 
 /// The most elements of a list in one reply: changes of a view, candidates, or turns of a condition.
 pub const MAX_TOLD: usize = 1_000;
+
+/// States the number of each limit. The function has no code; its clauses refuse any other number in a constant.
+pub fn limits_are_fixed()
+    ensures depth { max_depth ≡ 6 }
+    ensures depth_v1 { max_depth_v1 ≡ 4 }
+    ensures locations { max_locations ≡ 256 }
+    ensures locations_v5 { max_locations_v5 ≡ 64 }
+    ensures ports { max_ports ≡ 16 }
+    ensures name { max_name ≡ 32 }
+    ensures name_from { least_of_name ≡ 33 }
+    ensures name_to { greatest_of_name ≡ 126 }
+    ensures processors { max_processors ≡ 16 }
+    ensures processors_v1 { max_processors_v1 ≡ 8 }
+    ensures count { max_count ≡ 1099511627776 }
+    ensures counter { max_counter ≡ 4294967295 }
+    ensures values { max_values ≡ 1024 }
+    ensures queue { max_queue ≡ 65536 }
+    ensures kept { max_kept ≡ 1000000 }
+    ensures breaks { max_breaks ≡ 32 }
+    ensures literals { max_literals ≡ 8 }
+    ensures log { max_log ≡ 1000000 }
+    ensures clients { max_clients ≡ 64 }
+    ensures workers { max_workers ≡ 64 }
+    ensures piece { piece_length ≡ 16 }
+    ensures reached { max_reached ≡ 1000000 }
+    ensures line { max_line ≡ 65536 }
+    ensures input { max_input ≡ 268435456 }
+    ensures told { max_told ≡ 1000 }
+{}

@@ -8,7 +8,7 @@ use Rattle.nd_protocol.specs.declared.step.Step.{Step}
 use Rattle.nd_steps.specs.Integers.{changed}
 use Rattle.nd_steps.specs.Records.{named, named_by, AreEqual, Makes}
 use Rattle.nd_steps.specs.Flows.{keyed_flow}
-use Rattle.nd_steps.specs.Feeds.{fed_changes}
+use Rattle.nd_steps.specs.Feeds.{keyed_feed}
 use Rattle.nd_steps.specs.declared.fed_at.FedAt.{FedAt}
 use Rattle.nd_steps.specs.declared.flow.Flow.{Flow}
 use Rattle.nd_steps.specs.declared.record.Record.{Record}
@@ -23,7 +23,7 @@ module _ {A : Type 0} where
   names : (x : Step A) (cs ds : Changes A) → AreEqual cs ds → named_by x ds ≡ named_by x cs
   names x (Each cs) (Each ds) is = ap length is
   names x (Flowed f) (Flowed h) is = ap (λ (h : Flow). length (keyed_flow x h)) is
-  names x (Fed f) (Fed h) is = ap (λ (h : FedAt). length (fed_changes x h)) is
+  names x (Fed f) (Fed h) is = ap (λ (h : FedAt). length (keyed_feed x h)) is
   names x (Sent p c) (Sent q d) is = ap (λ (d : DeltaValue). size d + 1) is.1
   names x (Received from to c) (Received k l d) is = ap (λ (d : DeltaValue). size d + 1) is.2
   names x _ _ is = absurd is

@@ -80,12 +80,12 @@ module _ {A : Type 0} where
   jump_base m new n (reply.Moved at kept) h = same_base (moved_to m n) new h.3
   jump_base m new n _ h = absurd h
 
-  has_run_base : (only : Option (List ℕ)) (seed : Option ℕ) (breaks : BreakMap) (n : ℕ) (m new : TimelineValue A) → HasRun only seed breaks n m new → new.base ≡ m.base
+  pub has_run_base : (only : Option (List ℕ)) (seed : Option ℕ) (breaks : BreakMap) (n : ℕ) (m new : TimelineValue A) → HasRun only seed breaks n m new → new.base ≡ m.base
   unfolding HasRun
   has_run_base only seed breaks zero m new h = same_base m new h
   has_run_base only seed breaks (suc n) m new h = same_base (extended h.mid h.step) new h.last.made ∙ has_run_base only seed breaks n m h.mid h.earlier
 
-  stops_base : (only : Option (List ℕ)) (seed : Option ℕ) (breaks : BreakMap) (limit : ℕ) (m : TimelineValue A) (ran : ℕ) (why : Stop) (new : TimelineValue A) → StopsAt only seed breaks limit m ran why new → new.base ≡ m.base
+  pub stops_base : (only : Option (List ℕ)) (seed : Option ℕ) (breaks : BreakMap) (limit : ℕ) (m : TimelineValue A) (ran : ℕ) (why : Stop) (new : TimelineValue A) → StopsAt only seed breaks limit m ran why new → new.base ≡ m.base
   stops_base only seed breaks limit m ran stop.Limit new h = has_run_base only seed breaks ran m new h.1
   stops_base only seed breaks limit m ran stop.Idle new h = has_run_base only seed breaks ran m new h.1
   stops_base only seed breaks limit m ran (stop.Break id) new h = same_base (extended h.mid h.step) new h.last.made ∙ has_run_base only seed breaks h.before m h.mid h.earlier
@@ -138,7 +138,7 @@ module _ {A : Type 0} where
   jump_is m new n (reply.Moved at kept) h was = moved_is m new n h.3 h.0 was
   jump_is m new n _ h was = absurd h
 
-  has_run_cursor : (only : Option (List ℕ)) (seed : Option ℕ) (breaks : BreakMap) (n : ℕ) (m new : TimelineValue A) → HasRun only seed breaks n m new → new.cursor ≡ m.cursor + n
+  pub has_run_cursor : (only : Option (List ℕ)) (seed : Option ℕ) (breaks : BreakMap) (n : ℕ) (m new : TimelineValue A) → HasRun only seed breaks n m new → new.cursor ≡ m.cursor + n
   unfolding HasRun
   has_run_cursor only seed breaks zero m new h = let same : new.cursor ≡ m.cursor = ap (λ (m : TimelineValue A). m.cursor) h in omega (arith, same)
   has_run_cursor only seed breaks (suc n) m new h =

@@ -2,11 +2,11 @@
 use Rattle.std.proofs.Common.{◌≡◌, ℕ, zero, suc, List, Option, Some, sym, ap, subst, ◌∙◌, arith}
 use Rattle.nd_protocol.specs.declared.step.Step.{Step}
 use Rattle.nd_protocol.specs.declared.refusal.Refusal.TheVariants.{NoProcessor}
+use Rattle.nd_cluster.specs.Order.{ChoiceIsFirst}
 use Rattle.nd_breaks.specs.Breaks.{BreakMap}
 use Rattle.nd_breaks.specs.Conditions.{ConditionValue}
 use Rattle.nd_timeline.specs.Timeline.{TimelineValue, cluster_of, extended}
 use Rattle.nd_timeline.specs.Moves.{MachineValue, ForwardMoves, BackMoves, RedoMoves, JumpMoves, Goes, HasRun, StopsAt, RunMoves, SetMoves, ClearMoves}
-use Rattle.nd_timeline.specs.Seeds.{tried}
 use Rattle.nd_timeline.specs.Laws.{RepliesDetermineMachines}
 use Rattle.nd_timeline.specs.declared.command.Command.TheVariants as command
 use Rattle.nd_timeline.specs.declared.fault.Fault.TheVariants as fault
@@ -14,7 +14,7 @@ use Rattle.nd_timeline.specs.declared.reply.Stop.{Stop}
 use Rattle.nd_timeline.specs.declared.reply.Stop.TheVariants as stop
 use Rattle.nd_timeline.specs.declared.reply.Reply.{Reply}
 use Rattle.nd_timeline.specs.declared.reply.Reply.TheVariants as reply
-use Rattle.nd_timeline.proofs.RunLemmas.{one_choice}
+use Rattle.nd_timeline.proofs.RunLemmas.{one_chosen}
 
 module _ {A : Type 0} where
   -- ---- the timeline, without runs
@@ -44,15 +44,16 @@ module _ {A : Type 0} where
   one_jump m new other n (reply.Moved at kept) h k = h.3 ∙ sym k.3
   one_jump m new other n _ h k = absurd h
 
-  -- ---- a run
+-- ---- a run
 
-  one_step : (only : Option (List ℕ)) (seed : Option ℕ) (m l new other : TimelineValue A) (x y : Step A) → m ≡ l → Goes only seed m x new → Goes only seed l y other → new ≡ other
+module _ {A : Type 0} (law : ChoiceIsFirst A) where
+  pub one_step : (only : Option (List ℕ)) (seed : Option ℕ) (m l new other : TimelineValue A) (x y : Step A) → m ≡ l → Goes only seed m x new → Goes only seed l y other → new ≡ other
   one_step only seed m l new other x y same g h =
       let k : Goes only seed m y other = subst (λ (m : TimelineValue A). Goes only seed m y other) (sym same) h in
-      let chosen : x ≡ y = cc (one_choice (cluster_of m) (tried (cluster_of m) m.cursor only seed) (Some x) (Some y) g.chosen k.chosen) in
+      let chosen : x ≡ y = cc (one_chosen law (cluster_of m) m.cursor only seed (Some x) (Some y) g.chosen k.chosen) in
       g.made ∙ ap (extended m) chosen ∙ sym k.made
 
-  one_run : (only : Option (List ℕ)) (seed : Option ℕ) (breaks : BreakMap) (n : ℕ) (m new other : TimelineValue A) → HasRun only seed breaks n m new → HasRun only seed breaks n m other → new ≡ other
+  pub one_run : (only : Option (List ℕ)) (seed : Option ℕ) (breaks : BreakMap) (n : ℕ) (m new other : TimelineValue A) → HasRun only seed breaks n m new → HasRun only seed breaks n m other → new ≡ other
   unfolding HasRun
   one_run only seed breaks zero m new other h k = h ∙ sym k
   one_run only seed breaks (suc n) m new other h k =
@@ -62,7 +63,7 @@ module _ {A : Type 0} where
   one_run_of : (only : Option (List ℕ)) (seed : Option ℕ) (breaks : BreakMap) (n c : ℕ) (m new other : TimelineValue A) → n ≡ c → HasRun only seed breaks n m new → HasRun only seed breaks c m other → new ≡ other
   one_run_of only seed breaks n c m new other same h k = one_run only seed breaks n m new other h (subst (λ n. HasRun only seed breaks n m other) (sym same) k)
 
-  one_stop : (only : Option (List ℕ)) (seed : Option ℕ) (breaks : BreakMap) (limit : ℕ) (m : TimelineValue A) (ran : ℕ) (why : Stop) (new other : TimelineValue A)
+  pub one_stop : (only : Option (List ℕ)) (seed : Option ℕ) (breaks : BreakMap) (limit : ℕ) (m : TimelineValue A) (ran : ℕ) (why : Stop) (new other : TimelineValue A)
       → StopsAt only seed breaks limit m ran why new → StopsAt only seed breaks limit m ran why other → new ≡ other
   one_stop only seed breaks limit m ran stop.Limit new other h k = one_run only seed breaks ran m new other h.1 k.1
   one_stop only seed breaks limit m ran stop.Idle new other h k = one_run only seed breaks ran m new other h.1 k.1
@@ -97,16 +98,16 @@ module _ {A : Type 0} where
   one_machine : (new other : MachineValue A) → new.timeline ≡ other.timeline → new.breaks ≡ other.breaks → new ≡ other
   one_machine new other timeline breaks = λ i. record { timeline = timeline i; breaks = breaks i }
 
-pub replies_determine : (A : Type 0) → RepliesDetermineMachines A
-replies_determine A m new other (command.Forward x) r h k =
+pub replies_determine : (A : Type 0) → ChoiceIsFirst A → RepliesDetermineMachines A
+replies_determine A law m new other (command.Forward x) r h k =
     one_machine new other (one_forward m.timeline new.timeline other.timeline x r h.0 k.0) (h.1 ∙ sym k.1)
-replies_determine A m new other command.Back r h k = one_machine new other (one_back m.timeline new.timeline other.timeline r h.0 k.0) (h.1 ∙ sym k.1)
-replies_determine A m new other command.Redo r h k = one_machine new other (one_redo m.timeline new.timeline other.timeline r h.0 k.0) (h.1 ∙ sym k.1)
-replies_determine A m new other (command.Jump n) r h k =
+replies_determine A law m new other command.Back r h k = one_machine new other (one_back m.timeline new.timeline other.timeline r h.0 k.0) (h.1 ∙ sym k.1)
+replies_determine A law m new other command.Redo r h k = one_machine new other (one_redo m.timeline new.timeline other.timeline r h.0 k.0) (h.1 ∙ sym k.1)
+replies_determine A law m new other (command.Jump n) r h k =
     one_machine new other (one_jump m.timeline new.timeline other.timeline n r h.0 k.0) (h.1 ∙ sym k.1)
-replies_determine A m new other (command.Run limit only seed) r h k =
-    one_machine new other (one_ran m.timeline new.timeline other.timeline limit only seed m.breaks r h.0 k.0) (h.1 ∙ sym k.1)
-replies_determine A m new other (command.SetBreak c) r h k =
+replies_determine A law m new other (command.Run limit only seed) r h k =
+    one_machine new other (one_ran law m.timeline new.timeline other.timeline limit only seed m.breaks r h.0 k.0) (h.1 ∙ sym k.1)
+replies_determine A law m new other (command.SetBreak c) r h k =
     one_machine new other (h.1 ∙ sym k.1) (one_set m.breaks new.breaks other.breaks c r h.0 k.0)
-replies_determine A m new other (command.ClearBreak id) r h k =
+replies_determine A law m new other (command.ClearBreak id) r h k =
     one_machine new other (h.1 ∙ sym k.1) (one_clear m.breaks new.breaks other.breaks id r h.0 k.0)

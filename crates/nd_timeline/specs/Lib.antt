@@ -7,3 +7,4 @@ pub mod Reached
 pub mod Seeds
 pub mod Codes
 pub mod Checkpoints
+pub mod Snapshot

@@ -7,10 +7,10 @@ use Rattle.nd_protocol.specs.Enabled.{IsEnabled, IsRefused, MayWantMemory}
 use Rattle.nd_protocol.specs.declared.refusal.Refusal.TheVariants.{NoProcessor}
 use Rattle.nd_protocol.specs.declared.step.Step.{Step}
 use Rattle.nd_cluster.specs.Candidates.{candidates_among}
-use Rattle.nd_cluster.specs.Choice.{Chooses, AreRefused}
+use Rattle.nd_cluster.specs.Choice.{AreRefused}
 use Rattle.nd_breaks.specs.Breaks.{BreakMap, NoHit, FirstHit, IsLeastFree, IsFull}
 use Rattle.nd_breaks.specs.Conditions.{ConditionValue}
-use Rattle.nd_timeline.specs.Seeds.{tried}
+use Rattle.nd_timeline.specs.Seeds.{IsChosen}
 use Rattle.nd_timeline.specs.Timeline.{TimelineValue, cluster_of, extended, moved_to}
 use Rattle.nd_timeline.specs.declared.fault.Fault.{Fault}
 use Rattle.nd_timeline.specs.declared.fault.Fault.TheVariants.{Step as of_step, Memory, AtStart, AtEnd, NoSuchPoint, TimelineFull, TooManyBreaks, NoBreak}
@@ -82,9 +82,9 @@ abbrev pub ListsMissing : {A : Type 0} → TimelineValue A → Option (List ℕ)
 ListsMissing m None = ⊥
 ListsMissing m (Some listed) = Any (λ p. length (cluster_of m).processors ≤ p) listed
 
--- a run may continue with this step, the first enabled one of those that it tries
+-- a run may continue with this step, the first enabled candidate
 pub record Goes {A : Type 0} (only : Option (List ℕ)) (seed : Option ℕ) (m : TimelineValue A) (x : Step A) (new : TimelineValue A) : Type 0 where
-  pub chosen : Chooses (cluster_of m) (tried (cluster_of m) m.cursor only seed) (Some x)
+  pub chosen : IsChosen (cluster_of m) m.cursor only seed (Some x)
   pub made : new ≡ extended m x
 
 -- the run has executed this many steps, and no breakpoint held after any of them

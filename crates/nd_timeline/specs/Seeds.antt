@@ -2,7 +2,8 @@
 use Rattle.std.specs.Prelude.{◌≡◌, ℕ, ◌+◌, ◌*◌, ◌/◌, ◌%◌, ◌^◌, List, Option, None, Some, bit_xor}
 use Rattle.nd_protocol.specs.State.{ClusterState}
 use Rattle.nd_protocol.specs.declared.step.Step.{Step}
-use Rattle.nd_cluster.specs.Choice.{candidates_from, candidates_by}
+use Rattle.nd_cluster.specs.Choice.{candidates_by, Chooses}
+use Rattle.nd_cluster.specs.Order.{IsNext}
 
 -- ---- numbers of 64 bits
 
@@ -34,10 +35,10 @@ mix seed cursor = folded 31 (stirred_again seed cursor)
 abbrev pub BeginsAsKnown : Type 0
 BeginsAsKnown = (mix 0 0 ≡ 16294208416658607535) × (mix 0 1 ≡ 7960286522194355700) × (mix 0 2 ≡ 487617019471545679)
 
--- ---- the steps that a run tries
+-- ---- the step that a run executes
 
--- the candidates of the processors that a run goes through, in the order in which the run tries them: without a seed beginning
--- with the processor whose turn the cursor is, with a seed beginning with the place of the lot
-abbrev pub tried : {A : Type 0} → ClusterState → ℕ → Option (List ℕ) → Option ℕ → List (Step A)
-tried s cursor only None = candidates_from s cursor only
-tried s cursor only (Some seed) = candidates_by s (mix seed cursor) only
+-- the first enabled candidate of the processors that a run goes through, or none: without a seed in the order that begins with the
+-- processor whose turn the cursor is, with a seed in the list of candidates from the place of the lot on
+abbrev pub IsChosen : {A : Type 0} → ClusterState → ℕ → Option (List ℕ) → Option ℕ → Option (Step A) → Type 0
+IsChosen s cursor only None choice = IsNext s cursor only choice
+IsChosen s cursor only (Some seed) choice = Chooses s (candidates_by s (mix seed cursor) only) choice

@@ -1,7 +1,9 @@
 //! What every move of the debugger machine preserves, and what its replies determine: functions without
 //! code, to be called if their clauses are needed.
 ghost use Rattle.nd_timeline.specs.Laws.{MovesKeepBase, MovesKeepTimelines, ChoicesAreUnique, RepliesDetermineMachines};
+ghost use Rattle.nd_timeline.specs.Laws.{RunsJoin, RunsRepeat};
 
+use nd_cluster::candidates_are_in_turn;
 use std::alloc::Allocator;
 
 /// Shows that every move preserves the base, and that each kept step stays enabled in the state to
@@ -16,4 +18,15 @@ pub fn moves_keep_timelines<A: Allocator>()
 pub fn replies_determine_machines<A: Allocator>()
     ensures choice { ChoicesAreUnique A }
     ensures machine { RepliesDetermineMachines A }
-{}
+{
+    candidates_are_in_turn::<A>();
+}
+
+/// Shows that two runs one after the other make the steps of one run with both limits, and that after the
+/// cursor is back the same run makes the same steps, also by a seed.
+pub fn runs_repeat<A: Allocator>()
+    ensures join { RunsJoin A }
+    ensures repeat { RunsRepeat A }
+{
+    candidates_are_in_turn::<A>();
+}

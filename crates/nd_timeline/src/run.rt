@@ -1,9 +1,9 @@
 //! Runs.
 ghost use Rattle.std.specs.Prelude.{◌≡◌, ◌↔◌, IfOk, IfSome, IsNone, IsTrue, option_copied, option_map};
 ghost use Rattle.nd_cluster.specs.Candidates.{candidates_among};
-ghost use Rattle.nd_cluster.specs.Choice.{AreRefused, Chooses};
+ghost use Rattle.nd_cluster.specs.Choice.{AreRefused};
 ghost use Rattle.nd_cluster.specs.Records.{IsPlanned};
-ghost use Rattle.nd_timeline.specs.Seeds.{tried};
+ghost use Rattle.nd_timeline.specs.Seeds.{IsChosen};
 ghost use Rattle.nd_timeline.specs.Timeline.{cluster_of};
 ghost use Rattle.nd_timeline.specs.Moves.{ListsMissing, ran_reply, RunMoves};
 
@@ -33,8 +33,8 @@ impl<A: Allocator + Copy> Timeline<A> {
         only: Option<&Processors<A>>,
         seed: Option<u64>,
     ) -> Result<Option<Record<A>>, NoMemory>
-        ensures chosen { IfOk result (λ r. Chooses (cluster_of self.now)
-            (tried (cluster_of self.now) self.now.cursor (option_copied only.entry) seed)
+        ensures chosen { IfOk result (λ r. IsChosen (cluster_of self.now)
+            self.now.cursor (option_copied only.entry) seed
             (option_map (λ (r : Record A). r.step) r)) }
         ensures planned { IfOk result (λ r. IfSome r (λ r. IsPlanned r (cluster_of self.now))) }
         ensures none { IfOk result (λ r. IsNone r

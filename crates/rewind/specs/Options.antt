@@ -41,7 +41,7 @@ refusals words = fault_of command_line words
 abbrev pub AskHelp : Kinds → Type 0
 AskHelp kinds = IsAmong kind.DisplayHelp kinds
 
--- the words are refused with one of these errors, and help is not asked for
+-- one of these errors is not that help is asked for
 abbrev pub AreRefused : Kinds → Type 0
 AreRefused kinds = (k : ErrorKind) × IsAmong k kinds × (k ≢ kind.DisplayHelp)
 

@@ -25,8 +25,8 @@ const ABOUT: &str =
 /// A script, as the help shows it.
 const EXAMPLE: &str = concat!(
     "The script is read from standard input: a graph, then one command or query per line.\n",
-    "A first line {\"version\":n}, with n from 2 to 7, chooses its version, which is 1 without it;\n",
-    "more than 8 processors belong to versions 2 to 7.\n\n",
+    "A first line {\"version\":n}, with n from 2 to 8, chooses its version, which is 1 without it;\n",
+    "more than 8 processors belong to versions 2 to 8.\n\n",
     "Example:\n",
     "  {\"vertices\":[{\"name\":\"a\",\"op\":\"input\",\"depth\":0}],\"edges\":[]}\n",
     "  {\"do\":\"feed\",\"p\":0,\"vertex\":\"a\",\"values\":[],\"next\":\"next\"}\n",

@@ -9,7 +9,8 @@ use Rattle.nd_graph.specs.Fault.{IsUnlessMemory}
 use Rattle.nd_graph.specs.declared.fault.GraphFault.{GraphFault}
 use Rattle.nd_graph.specs.declared.fault.GraphFault.TheVariants.{Shape}
 use Rattle.rewind_forms.specs.Asked.{asked_of}
-use Rattle.rewind_forms.specs.Replies.{found as found_data, location_fault, line_fault, frontier}
+use Rattle.rewind_replies.specs.Replies.{found as found_data, location_fault, frontier}
+use Rattle.rewind_answers.specs.FaultyLines.{line_fault}
 use Rattle.nd_delta.specs.Delta.{DeltaValue, entries}
 use Rattle.nd_view.specs.View.{IsOnFrontier, IsPartWhere}
 use Rattle.nd_protocol.specs.State.{ClusterState, view as view_in}

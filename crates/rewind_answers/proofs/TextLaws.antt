@@ -9,7 +9,8 @@ use Rattle.rewind_lines.specs.Lines.{too_long, no_json}
 use Rattle.nd_timeline.specs.Timeline.{TimelineValue, cluster_of}
 use Rattle.nd_timeline.specs.declared.command.Command.{Command}
 use Rattle.rewind_forms.specs.Asked.{asked_of}
-use Rattle.rewind_forms.specs.Replies.{IsReply, line_fault}
+use Rattle.rewind_replies.specs.Replies.{IsReply}
+use Rattle.rewind_answers.specs.FaultyLines.{line_fault}
 use Rattle.rewind_forms.specs.declared.asked.Asked.{Asked}
 use Rattle.rewind_forms.specs.declared.asked.Asked.TheVariants.{Do, Look}
 use Rattle.rewind_forms.specs.declared.fault.LineFault.{LineFault}

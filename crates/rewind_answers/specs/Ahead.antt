@@ -8,9 +8,9 @@ use Rattle.nd_view.specs.Arrivals.{AreArrivals, AreExact, AreApart}
 use Rattle.nd_protocol.specs.State.{ClusterState, view}
 use Rattle.nd_cluster.specs.Candidates.{AreListed, candidates}
 use Rattle.nd_cluster.specs.declared.candidate.Candidates.{Candidates}
-use Rattle.rewind_forms.specs.Replies.{no_processor, times, candidates as told_candidates}
-use Rattle.rewind_forms.specs.Candidates.{candidates_data}
-use Rattle.rewind_forms.specs.Times.{times_data}
+use Rattle.rewind_replies.specs.Replies.{no_processor, times, candidates as told_candidates}
+use Rattle.rewind_replies.specs.Candidates.{candidates_data}
+use Rattle.rewind_replies.specs.Times.{times_data}
 
 -- the steps that a run could try, each enabled or with the refusal of least number: the first of them, and whether there are more
 pub record CandidatesReply (s : ClusterState) (reply : Data) : Type 0 where

@@ -36,7 +36,7 @@ use Rattle.nd_session.specs.declared.fault.SessionFault.{SessionFault}
 use Rattle.nd_session.specs.declared.fault.SessionFault.TheVariants.{LogFull, Memory}
 use Rattle.rewind_forms.specs.Asked.{asked_of}
 use Rattle.rewind_forms.specs.Versions.{number_of as number_of_version, version_of, includes}
-use Rattle.rewind_forms.specs.Replies.{version, fault, location_fault, piece_fault, graph, reply_data, faulty, line_fault, count, before, state, known, frontier, passed, not_passed, no_processor, found}
+use Rattle.rewind_replies.specs.Replies.{version, fault, location_fault, piece_fault, graph, reply_data, faulty, count, before, state, known, frontier, passed, not_passed, no_processor, found}
 use Rattle.rewind_forms.specs.LineFaults.{code_of as code_of_line}
 use Rattle.rewind_forms.specs.declared.version.Version.{Version}
 use Rattle.rewind_forms.specs.declared.version.Version.TheVariants.{First, Second, Fifth, Sixth}
@@ -46,9 +46,11 @@ use Rattle.rewind_forms.specs.declared.asked.Asked.{Asked}
 use Rattle.rewind_forms.specs.declared.asked.Asked.TheVariants.{Do, Look}
 use Rattle.rewind_forms.specs.declared.queries.Search.{Search as Searching}
 use Rattle.rewind_forms.specs.declared.queries.Query.{Query}
-use Rattle.rewind_forms.specs.declared.queries.Query.TheVariants.{State, Count, Before, View, Frontier, Passed, Search, Export, Why, Changes, Step, Candidates, Effect, Turns, FrontierAt, Reach}
+use Rattle.rewind_forms.specs.declared.queries.Query.TheVariants.{State, Count, Before, View, Frontier, Passed, Search, Export, Why, Changes, Step, Candidates, Effect, Turns, FrontierAt, Reach, WhyAtRest}
+use Rattle.rewind_answers.specs.FaultyLines.{line_fault}
 use Rattle.rewind_answers.specs.Ahead.{CandidatesReply, FrontierAtReply}
 use Rattle.rewind_answers.specs.Reached.{ReachReply}
+use Rattle.rewind_answers.specs.AtRest.{WhyAtRestReply}
 use Rattle.rewind_answers.specs.Explained.{WhyReply, ChangesReply, ExportReply, StepReply, EffectReply, TurnsReply}
 
 -- a machine, and how many of its commands are logged
@@ -182,6 +184,7 @@ QueryReply m (Effect to) reply = EffectReply m to reply
 QueryReply m (Turns asked) reply = TurnsReply m asked reply
 QueryReply m (FrontierAt q l) reply = FrontierAtReply (cluster_of m) q l reply
 QueryReply m (Reach asked) reply = ReachReply (cluster_of m) asked reply
+QueryReply m (WhyAtRest asked) reply = WhyAtRestReply (cluster_of m) m.cursor asked reply
 
 -- The reply to a command: that of a move of the machine, with the names of the graph, and the command is logged; or LogFull,
 -- exactly if the log is full; or out of memory.

@@ -31,11 +31,11 @@ use Rattle.nd_history.specs.declared.fault.TurnsFault.TheVariants as turned
 use Rattle.nd_history.specs.declared.change_list.ChangeList.{ChangeList}
 use Rattle.nd_history.specs.declared.fault.ChangesFault.{ChangesFault}
 use Rattle.nd_history.specs.declared.fault.ChangesFault.TheVariants as changes
-use Rattle.rewind_forms.specs.Replies.{fault, no_processor, exported, kept_step, changed, why, effect, turns}
-use Rattle.rewind_forms.specs.Objects.{object_of}
-use Rattle.rewind_forms.specs.Reasons.{reasons_data}
-use Rattle.rewind_forms.specs.Changes.{changes_data}
-use Rattle.rewind_forms.specs.Effects.{effect_data}
+use Rattle.rewind_replies.specs.Replies.{fault, no_processor, exported, kept_step, changed, why, effect, turns}
+use Rattle.nd_state_json.specs.Objects.{object_of}
+use Rattle.rewind_replies.specs.Reasons.{reasons_data}
+use Rattle.rewind_replies.specs.Changes.{changes_data}
+use Rattle.rewind_replies.specs.Effects.{effect_data}
 use Rattle.rewind_forms.specs.declared.queries.ViewChanges.{ViewChanges}
 use Rattle.rewind_forms.specs.declared.queries.Turns.{Turns as Turning}
 

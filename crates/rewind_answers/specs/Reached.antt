@@ -10,7 +10,7 @@ use Rattle.nd_reach.specs.declared.reached.Reached.{Reached}
 use Rattle.nd_reach.specs.declared.reached.Reached.TheVariants.{Way, Nowhere}
 use Rattle.nd_reach.specs.declared.fault.ReachFault.{ReachFault}
 use Rattle.nd_reach.specs.declared.fault.ReachFault.TheVariants as reach
-use Rattle.rewind_forms.specs.Replies.{fault, way, no_way}
+use Rattle.rewind_replies.specs.Replies.{fault, way, no_way}
 use Rattle.rewind_forms.specs.declared.queries.Reach.{Reach}
 use Rattle.rewind_answers.specs.Explained.{steps_data}
 

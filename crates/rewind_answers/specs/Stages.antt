@@ -5,11 +5,11 @@ use Rattle.std.specs.declared.alloc.Global.{Global}
 use Rattle.nd_graph.specs.Graph.{Dataflow}
 use Rattle.nd_graph.specs.declared.fault.GraphFault.{GraphFault}
 use Rattle.nd_session.specs.State.{StateValue}
-use Rattle.rewind_forms.specs.Replies.{IsReply}
+use Rattle.rewind_replies.specs.Replies.{IsReply}
 use Rattle.rewind_forms.specs.declared.version.Version.{Version}
 use Rattle.rewind_answers.specs.Answers.{Logged, Phase, unopened, unstarted, running, refused, StartReplies}
-use Rattle.rewind_forms.specs.Errors.{error_data}
-use Rattle.rewind_forms.specs.Replies.{graph}
+use Rattle.rewind_replies.specs.Errors.{error_data}
+use Rattle.rewind_replies.specs.Replies.{graph}
 use Rattle.rewind_answers.specs.declared.answer.First.{First}
 use Rattle.rewind_answers.specs.declared.answer.First.TheVariants.{Started, Refused}
 use Rattle.rewind_answers.specs.declared.stage.Script.{Script}

@@ -1,11 +1,11 @@
 //! The replies that say what a run could try next, and which times can still arrive at a location.
 ghost use Rattle.std.specs.Prelude.{IfOk};
-ghost use Rattle.rewind_forms.specs.Replies.{IsReply};
+ghost use Rattle.rewind_replies.specs.Replies.{IsReply};
 ghost use Rattle.rewind_answers.specs.Ahead.{CandidatesReply, FrontierAtReply};
 
 use crate::query::no_processor;
 use nd_cluster::Cluster;
-use rewind_forms::{NoNames, object, text_of};
+use rewind_replies::{NoNames, object, text_of};
 use std::alloc::{AllocError, Global};
 
 /// Replies with the steps that a run could try, and why each refused step is refused.

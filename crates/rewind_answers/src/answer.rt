@@ -4,11 +4,12 @@ ghost use Rattle.nd_graph.specs.Fault.{IsUnlessMemory};
 ghost use Rattle.nd_graph.specs.declared.fault.GraphFault.TheVariants.{Shape};
 ghost use Rattle.serde_json.specs.View.{view};
 ghost use Rattle.rewind_answers.specs.Answers.{draft_in, checked_in, graph_of as graph_in, most_processors as most_in, LineReplies, AskedReply, CommandReply};
-ghost use Rattle.rewind_forms.specs.Replies.{IsReply};
+ghost use Rattle.rewind_replies.specs.Replies.{IsReply};
 ghost use Rattle.rewind_answers.specs.Stages.{IsOrFollows, Starts, logged, phase_in};
 ghost use Rattle.nd_protocol.specs.Invariant.{KeepsProtocol};
 ghost use Rattle.nd_timeline.specs.Timeline.{cluster_of};
 
+use crate::faulty_lines::line_fault;
 use crate::query::answer_query;
 use crate::stage::Script;
 use nd_cluster::{Cluster, StartFault};
@@ -16,9 +17,8 @@ use nd_graph::{Graph, GraphDraft, GraphFault};
 use nd_session::State;
 use nd_time::limits::{MAX_PROCESSORS, MAX_PROCESSORS_V1};
 use nd_timeline::{Command, Timeline};
-use rewind_forms::{
-    Asked, ErrorReply, GraphReply, NoNames, Version, asked_of, line_fault, text_of,
-};
+use rewind_forms::{Asked, Version, asked_of};
+use rewind_replies::{ErrorReply, GraphReply, NoNames, text_of};
 use serde_json::Value;
 use std::alloc::{AllocError, Global};
 use std::thread::Threads;

@@ -1,14 +1,14 @@
 //! The replies that list kept steps, and what one of them changed.
 ghost use Rattle.std.specs.Prelude.{◌≡◌, Some, IfOk};
 ghost use Rattle.serde_json.specs.Written.{compact_text};
-ghost use Rattle.rewind_forms.specs.Replies.{IsReply, fault as fault_data};
+ghost use Rattle.rewind_replies.specs.Replies.{IsReply, fault as fault_data};
 ghost use Rattle.rewind_answers.specs.Explained.{ExportReply, StepReply, EffectReply, effect_fault};
 ghost use Rattle.nd_timeline.specs.Faults.{code_of};
 ghost use Rattle.nd_timeline.specs.declared.fault.Fault.TheVariants.{NoSuchPoint};
 
 use nd_history::{EffectFault, effect};
 use nd_timeline::{Fault, Timeline};
-use rewind_forms::{KeptSteps, NoNames, object, text_of};
+use rewind_replies::{KeptSteps, NoNames, object, text_of};
 use std::alloc::{AllocError, Global};
 
 /// Replies with all kept steps, and the cursor.

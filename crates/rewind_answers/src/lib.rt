@@ -4,6 +4,8 @@
 
 mod ahead;
 mod answer;
+mod at_rest;
+mod faulty_lines;
 mod kept;
 mod query;
 mod reached;

@@ -2,12 +2,13 @@
 ghost use Rattle.std.specs.Prelude.{◌≡◌, Some, Ok, IfOk};
 ghost use Rattle.serde_json.specs.Written.{compact_text};
 ghost use Rattle.nd_protocol.specs.Invariant.{IsSettled, KeepsProtocol};
-ghost use Rattle.rewind_forms.specs.Replies.{IsReply, count as count_data, no_processor as no_processor_data, state as state_reply};
+ghost use Rattle.rewind_replies.specs.Replies.{IsReply, count as count_data, no_processor as no_processor_data, state as state_reply};
 ghost use Rattle.nd_state_json.specs.StateText.{state_data};
 ghost use Rattle.rewind_answers.specs.Answers.{QueryReply, BeforeReply, ViewReply, FrontierReply, PassedReply, SearchReply, search_fault, true_count};
 
 use crate::ahead::{answer_candidates, answer_frontier_at};
 use crate::answer::cluster;
+use crate::at_rest::answer_why_at_rest;
 use crate::kept::{answer_effect, answer_export, answer_step};
 use crate::reached::answer_reach;
 use crate::why::{answer_changes, answer_turns, answer_why};
@@ -16,7 +17,8 @@ use nd_history::{OpenGate, SearchFault, search_in};
 use nd_paths::Pointstamp;
 use nd_protocol::Refusal;
 use nd_session::State;
-use rewind_forms::{Counts, Entries, NoNames, Query, Search, object, text_of};
+use rewind_forms::{Query, Search};
+use rewind_replies::{Counts, Entries, NoNames, object, text_of};
 use std::alloc::{AllocError, Global};
 use std::thread::Threads;
 
@@ -185,5 +187,6 @@ pub fn answer_query<R: Threads + Sync>(
         Query::Turns(asked) => answer_turns(alloc, state.timeline(), asked),
         Query::FrontierAt(q, location) => answer_frontier_at(alloc, cluster, *q, *location),
         Query::Reach(asked) => answer_reach(alloc, cluster, asked),
+        Query::WhyAtRest(asked) => answer_why_at_rest(alloc, state.timeline(), asked),
     }
 }

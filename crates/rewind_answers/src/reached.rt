@@ -1,11 +1,12 @@
 //! The reply to a question for what can still happen.
 ghost use Rattle.std.specs.Prelude.{◌≡◌, Some, IfOk};
-ghost use Rattle.rewind_forms.specs.Replies.{IsReply};
+ghost use Rattle.rewind_replies.specs.Replies.{IsReply};
 ghost use Rattle.rewind_answers.specs.Reached.{ReachReply, reach_fault, reached_data};
 
 use nd_cluster::Cluster;
 use nd_reach::{ReachFault, Reached, reach};
-use rewind_forms::{NoNames, Reach, object, text_of};
+use rewind_forms::Reach;
+use rewind_replies::{NoNames, object, text_of};
 use std::alloc::{AllocError, Global};
 
 // Replies with an answer.

@@ -4,15 +4,19 @@ ghost use Rattle.std.specs.Option.{option_to_list};
 ghost use Rattle.serde_json.specs.View.{view};
 ghost use Rattle.rewind_lines.specs.Lines.{json};
 ghost use Rattle.rewind_lines.specs.Readings.{reading_view};
-ghost use Rattle.rewind_forms.specs.Replies.{line_fault as line_fault_data};
+ghost use Rattle.serde_json.specs.Written.{compact_text};
+ghost use Rattle.rewind_replies.specs.Replies.{version as version_data};
 ghost use Rattle.rewind_answers.specs.Answers.{graph_of, StartReplies, OpeningReplies, Answers, after_fault};
-ghost use Rattle.rewind_forms.specs.Versions.{version_of as version_in};
+ghost use Rattle.rewind_forms.specs.Versions.{number_of, version_of as version_in};
+ghost use Rattle.rewind_answers.specs.FaultyLines.{line_fault as line_fault_data};
 ghost use Rattle.rewind_answers.specs.Stages.{IsOrFollows, AreReplies, phase_of, phase_after};
 
 use crate::answer::{First, Started, answer_first, answer_later};
+use crate::faulty_lines::line_fault;
 use nd_session::State;
-use rewind_forms::{LineFault, NoNames, Version, line_fault, text_of, version_of, version_reply};
+use rewind_forms::{LineFault, Version, version_of};
 use rewind_lines::Reading;
+use rewind_replies::{NoNames, object, text_of};
 use serde_json::Value;
 use std::alloc::{AllocError, Global};
 use std::thread::Threads;
@@ -91,6 +95,18 @@ fn answer_graph(
             Ok(goes_on(text))
         }
     }
+}
+
+// Returns the text of the reply to the line that names the script's version.
+fn version_reply(alloc: Global, version: Version) -> Result<Vec<u8>, AllocError>
+    ensures reply { IfOk result (λ t.
+        t.items ≡ compact_text (version_data (number_of version))) }
+{
+    text_of(
+        alloc,
+        &NoNames,
+        &object! {"ok": true, "version": version.number()},
+    )
 }
 
 // Answers the first line, which names the script's version or is the graph's.

@@ -2,14 +2,15 @@
 ghost use Rattle.std.specs.Prelude.{◌≡◌, ◌↔◌, ◌<◌, Some, IfOk, IsTrue, length};
 ghost use Rattle.nd_view.specs.View.{IsPassedBefore};
 ghost use Rattle.nd_protocol.specs.State.{view};
-ghost use Rattle.rewind_forms.specs.Replies.{IsReply};
+ghost use Rattle.rewind_replies.specs.Replies.{IsReply};
 ghost use Rattle.rewind_answers.specs.Explained.{WhyReply, ChangesReply, changes_fault, TurnsReply, turns_fault};
 
 use crate::query::no_processor;
 use nd_cluster::{Cluster, Extent, Question};
 use nd_history::{ChangesFault, TurnsFault, changes, turns};
 use nd_timeline::Timeline;
-use rewind_forms::{NoNames, Turns, ViewChanges, object, text_of};
+use rewind_forms::{Turns, ViewChanges};
+use rewind_replies::{NoNames, object, text_of};
 use std::alloc::{AllocError, Global};
 
 // Returns whether the asked processor's view is positive at no pointstamp before the asked one.

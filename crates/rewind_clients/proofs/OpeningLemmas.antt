@@ -5,7 +5,7 @@ use Rattle.std.specs.declared.alloc.AllocError.{AllocError}
 use Rattle.serde_json.specs.Data.{Data}
 use Rattle.rewind_lines.specs.Lines.{blank, too_long, no_json, json}
 use Rattle.rewind_forms.specs.LineFaults.{code_of}
-use Rattle.rewind_forms.specs.Replies.{faulty, version as version_reply}
+use Rattle.rewind_replies.specs.Replies.{faulty, version as version_reply}
 use Rattle.rewind_forms.specs.Versions.{number_of, version_of}
 use Rattle.rewind_forms.specs.declared.version.Version.{Version}
 use Rattle.rewind_forms.specs.declared.fault.LineFault.TheVariants.{LineTooLong, BadLine}

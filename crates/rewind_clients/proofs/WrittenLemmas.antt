@@ -109,8 +109,7 @@ pub stops-driving : (v : Version) (opening : List Data) (m : Logged) (commands :
     → IsOfDriving e → after ≡ Some (before ++ text_of opening) → Writes (script v opening m commands) before after (Err e)
 stops-driving v opening m commands lines before after fault.Memory t h e =
     (opening ++ lines, (lines, t, refl), record { count = length opening; written = e ∙ ap (λ (rs : List Data). Some (before ++ text_of rs)) (sym (take-append_seam opening lines)) })
-stops-driving v opening m commands lines before after fault.Close t h e =
-    (opening ++ lines, (lines, t, refl), record { count = length opening; written = e ∙ ap (λ (rs : List Data). Some (before ++ text_of rs)) (sym (take-append_seam opening lines)) })
+stops-driving v opening m commands lines before after fault.Close t h e = e
 stops-driving v opening m commands lines before after fault.Graph t h e = absurd h
 stops-driving v opening m commands lines before after fault.Script t h e = absurd h
 stops-driving v opening m commands lines before after fault.Read t h e = absurd h

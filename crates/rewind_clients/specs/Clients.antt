@@ -58,14 +58,19 @@ ReadFails limit input left _ = ⊥
 abbrev pub WroteAll : Intake → List ℕ → Option (List ℕ) → Type 0
 WroteAll intake before after = (replies : List Data) × Replies intake replies × (after ≡ Some (before ++ text_of replies))
 
--- what is written for a script that was read, and how the run ends
+-- the replies to the version line and to the graph's line were written, and no others
+abbrev pub WroteOpening : Intake → List ℕ → Option (List ℕ) → Type 0
+WroteOpening (script version opening machine commands) before after = after ≡ Some (before ++ text_of opening)
+WroteOpening _ before after = ⊥
+
+-- what is written for a script that was read, and how the run ends; a log that does not match is never shown
 abbrev pub Writes : Intake → List ℕ → Option (List ℕ) → Result (Unit {0}) DebugFault → Type 0
 Writes intake before after (Ok done) = EndsWell intake × WroteAll intake before after
 Writes intake before after (Err fault.Graph) = IsRefused intake × WroteAll intake before after
 Writes intake before after (Err fault.Script) = IsFaulty intake × WroteAll intake before after
 Writes intake before after (Err fault.Write) = (replies : List Data) × Replies intake replies × WroteFront replies before after
 Writes intake before after (Err fault.Memory) = (replies : List Data) × Replies intake replies × WroteLines replies before after
-Writes intake before after (Err fault.Close) = (replies : List Data) × Replies intake replies × WroteLines replies before after
+Writes intake before after (Err fault.Close) = WroteOpening intake before after
 Writes intake before after _ = ⊥
 
 -- How a run of several clients ends. The reader had `input` and has `left`; the writer held `before` and holds `after`.

@@ -3,10 +3,10 @@ use Rattle.std.specs.Prelude.{ℕ, List, [], ◌∷◌, ◌++◌, map, unwrap_or
 use Rattle.std.specs.declared.alloc.Global.{Global}
 use Rattle.serde_json.specs.Data.{Data}
 use Rattle.nd_timeline.specs.declared.command.Command.{Command}
-use Rattle.rewind_forms.specs.Errors.{error_data}
-use Rattle.rewind_forms.specs.declared.replies.ErrorReply.{ErrorReply}
-use Rattle.rewind_forms.specs.declared.replies.GraphReply.{GraphReply}
-use Rattle.rewind_forms.specs.Replies.{graph as graph_reply, version as version_reply}
+use Rattle.rewind_replies.specs.Errors.{error_data}
+use Rattle.rewind_replies.specs.declared.replies.ErrorReply.{ErrorReply}
+use Rattle.rewind_replies.specs.declared.replies.GraphReply.{GraphReply}
+use Rattle.rewind_replies.specs.Replies.{graph as graph_reply, version as version_reply}
 use Rattle.rewind_forms.specs.Versions.{number_of}
 use Rattle.rewind_forms.specs.declared.version.Version.{Version}
 use Rattle.rewind_forms.specs.declared.version.Version.TheVariants.{First}

@@ -7,7 +7,7 @@ use Rattle.rewind_lines.specs.Lines.{Reading, blank, too_long, no_json, json}
 use Rattle.rewind_forms.specs.Grammar.{form_of}
 use Rattle.rewind_forms.specs.Asked.{asked_of}
 use Rattle.rewind_forms.specs.LineFaults.{code_of as code_of_line}
-use Rattle.rewind_forms.specs.Replies.{faulty}
+use Rattle.rewind_replies.specs.Replies.{faulty}
 use Rattle.rewind_forms.specs.declared.version.Version.{Version}
 use Rattle.rewind_forms.specs.declared.form.Form.{Form}
 use Rattle.rewind_forms.specs.declared.form.Form.TheVariants.{Step, Command, Query}

@@ -15,7 +15,7 @@ use Rattle.nd_session.specs.declared.close.Log.{Log}
 use Rattle.nd_session.specs.declared.receipt.Receipt.{Receipt}
 use Rattle.nd_session.specs.declared.fault.SessionFault.{SessionFault}
 use Rattle.nd_session.specs.declared.fault.SessionFault.TheVariants.{LogFull, Memory}
-use Rattle.rewind_forms.specs.Replies.{reply_data}
+use Rattle.rewind_replies.specs.Replies.{reply_data}
 use Rattle.rewind_clients.specs.Intake.{Commands}
 
 -- {"client":c,"number":n,"reply":reply}

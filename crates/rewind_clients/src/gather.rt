@@ -6,8 +6,8 @@ ghost use Rattle.rewind_clients.specs.Gathered.{Gathered, GatherFails, GathersMo
 ghost use Rattle.rewind_clients.specs.Written.{WroteFront};
 
 use crate::DebugFault;
-use rewind_forms::{Names, Shown, text_of};
 use rewind_lines::{Outbox, Sink, Unwritten};
+use rewind_replies::{Names, Shown, text_of};
 use std::alloc::Global;
 
 /// Writes the replies that wait.

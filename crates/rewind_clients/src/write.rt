@@ -1,6 +1,6 @@
 //! The replies to the clients, as lines.
 ghost use Rattle.std.specs.Prelude.{◌≡◌, ◌∷◌, [], false, map, IfErr, OnOk};
-ghost use Rattle.rewind_forms.specs.Errors.{no_graph};
+ghost use Rattle.rewind_replies.specs.Errors.{no_graph};
 ghost use Rattle.rewind_clients.specs.Faults.{is_write_fault};
 ghost use Rattle.rewind_clients.specs.Intakes.{opening_data, version_replies};
 ghost use Rattle.rewind_clients.specs.Gathered.{GathersMore, IsOfWriting, StopsAmong, WritesAll, WritingStops};
@@ -10,8 +10,9 @@ use crate::DebugFault;
 use crate::gather::{flush, put};
 use nd_graph::Graph;
 use nd_session::{Receipt, SessionFault};
-use rewind_forms::{GraphReply, NoNames, Shown, Version, object};
+use rewind_forms::Version;
 use rewind_lines::{Outbox, Sink};
+use rewind_replies::{GraphReply, NoNames, Shown, object};
 use std::alloc::Global;
 
 /// Gathers the lines of the entries of a log.

@@ -20,7 +20,7 @@ use Rattle.rewind_forms.specs.Places.{placed, are_known, point_named}
 use Rattle.rewind_forms.specs.Grammar.{steps, form_of}
 use Rattle.rewind_forms.specs.Steps.{epoch_at, next_at, feed_of, take_of, notice_of, release_of, move_of, keep_of, broadcast_of, part_of, receive_of, read_of}
 use Rattle.rewind_forms.specs.declared.version.Version.TheVariants.{Sixth}
-use Rattle.rewind_forms.specs.Objects.{feed_object, take_object, notice_object, move_object, release_object, broadcast_object, receive_object, object_of}
+use Rattle.nd_state_json.specs.Objects.{feed_object, take_object, notice_object, move_object, release_object, broadcast_object, receive_object, object_of}
 use Rattle.nd_protocol.specs.Ranges.{NumbersFit, IsSmall, NextIsSmall, TimeIsSmall, TimesAreSmall}
 use Rattle.rewind_forms.specs.Fitting.{HasDepth, LaterHasDepth, NamesFit}
 use Rattle.rewind_forms.proofs.NamesLemmas.{vertex-name_at, edge-name_at, time-numbers, known, point-name_at}

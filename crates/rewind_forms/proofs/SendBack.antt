@@ -26,7 +26,7 @@ use Rattle.rewind_forms.specs.declared.form.Form.TheVariants as line
 use Rattle.rewind_forms.specs.declared.form.StepForm.TheVariants as form
 use Rattle.rewind_forms.specs.declared.fault.LineFault.{LineFault}
 use Rattle.rewind_forms.specs.declared.fault.LineFault.TheVariants.{BadShape, UnknownName, BadTime}
-use Rattle.rewind_forms.specs.Objects.{at_before, dest_before, send_members, send_object}
+use Rattle.nd_state_json.specs.Objects.{at_before, dest_before, send_members, send_object}
 use Rattle.rewind_forms.specs.Fitting.{HasDepth, NamesFit}
 use Rattle.rewind_forms.proofs.NamesLemmas.{vertex-name_at, time-numbers}
 use Rattle.rewind_forms.proofs.Values.{list-row, small-natural, integers-whole, numbers-natural}

@@ -6,7 +6,7 @@ use Rattle.serde_json.specs.Data.{Data}
 use Rattle.nd_json.specs.Forms.{has_keys, text_at}
 use Rattle.rewind_forms.specs.Versions.{includes}
 use Rattle.rewind_forms.specs.declared.version.Version.{Version}
-use Rattle.rewind_forms.specs.declared.version.Version.TheVariants.{First, Second, Third, Fourth, Fifth, Sixth, Seventh}
+use Rattle.rewind_forms.specs.declared.version.Version.TheVariants.{First, Second, Third, Fourth, Fifth, Sixth, Seventh, Eighth}
 use Rattle.rewind_forms.specs.declared.form.Form.{Form}
 use Rattle.rewind_forms.specs.declared.form.Form.TheVariants.{Step, Command, Query}
 use Rattle.rewind_forms.specs.declared.form.StepForm.{StepForm}
@@ -73,6 +73,8 @@ queries =
     ∷ (codes "why", codes "at" ∷ codes "before" ∷ codes "do" ∷ codes "q" ∷ codes "time" ∷ [], Fourth, query.WhyBefore)
     ∷ (codes "reach", codes "do" ∷ codes "limit" ∷ codes "when" ∷ [], Seventh, query.Reach)
     ∷ (codes "reach", codes "do" ∷ codes "limit" ∷ codes "when" ∷ codes "with" ∷ [], Seventh, query.ReachWith)
+    ∷ (codes "why", codes "at" ∷ codes "do" ∷ codes "q" ∷ codes "rest" ∷ codes "time" ∷ [], Eighth, query.WhyAtRest)
+    ∷ (codes "why", codes "at" ∷ codes "before" ∷ codes "do" ∷ codes "q" ∷ codes "rest" ∷ codes "time" ∷ [], Eighth, query.WhyAtRest)
     ∷ []
 
 -- ---- the form of a line

@@ -6,7 +6,7 @@ use Rattle.nd_graph.specs.Graph.{Dataflow}
 use Rattle.nd_graph.specs.Checked.{IsFaultless}
 use Rattle.nd_protocol.specs.declared.step.Step.{Step}
 use Rattle.rewind_forms.specs.Steps.{read_of}
-use Rattle.rewind_forms.specs.Objects.{object_of}
+use Rattle.nd_state_json.specs.Objects.{object_of}
 use Rattle.nd_protocol.specs.Ranges.{NumbersFit}
 use Rattle.rewind_forms.specs.Fitting.{NamesFit}
 

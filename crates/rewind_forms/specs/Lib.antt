@@ -11,14 +11,5 @@ pub mod Commands
 pub mod Queries
 pub mod Allowed
 pub mod Asked
-pub mod Replies
-pub mod Objects
 pub mod Fitting
 pub mod Laws
-pub mod Reasons
-pub mod Changes
-pub mod Candidates
-pub mod Times
-pub mod Effects
-pub mod Errors
-pub mod NoFloats

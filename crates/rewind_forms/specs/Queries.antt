@@ -1,5 +1,5 @@
 -- The query that a line asks for. The shapes of its values are tested first, then the names, then the times.
-use Rattle.std.specs.Prelude.{Bool, codes, if◌then◌else◌, Result, Ok, IsSomeAnd}
+use Rattle.std.specs.Prelude.{Bool, codes, if◌then◌else◌, Option, Some, Result, Ok, IsSomeAnd, is_some, option_map}
 use Rattle.serde_json.specs.Data.{Data}
 use Rattle.serde_json.specs.Find.{get}
 use Rattle.nd_json.specs.Forms.{boolean_at, text_at, small_at, whole_at}
@@ -17,7 +17,7 @@ use Rattle.rewind_forms.specs.declared.form.QueryForm.TheVariants as form
 use Rattle.rewind_forms.specs.declared.fault.LineFault.{LineFault}
 use Rattle.rewind_forms.specs.declared.fault.LineFault.TheVariants.{BadShape, UnknownName, BadTime}
 use Rattle.rewind_forms.specs.declared.queries.Query.{Query}
-use Rattle.rewind_forms.specs.declared.queries.Query.TheVariants.{State, Count, Before, View, Frontier, Passed, Search, Export, Why, Changes, Step, Candidates, Effect, Turns, FrontierAt, Reach}
+use Rattle.rewind_forms.specs.declared.queries.Query.TheVariants.{State, Count, Before, View, Frontier, Passed, Search, Export, Why, Changes, Step, Candidates, Effect, Turns, FrontierAt, Reach, WhyAtRest}
 
 unfoldable pub count_of : Dataflow → Data → Result Query LineFault
 count_of g d = after (point_there g d) (λ point. Ok (Count point))
@@ -116,6 +116,18 @@ reach_with_of v g d =
     after (condition_of v g when) (λ condition.
     Ok (Reach (record { when = condition; limit = limit; allowed = allowed }))))))
 
+-- the same; without the key "before" it is about those at or before
+unfoldable pub extent_there : Data → Option Extent
+extent_there d = if is_some (get (codes "before") d) then option_map extent_of (boolean_at (codes "before") d) else Some AtOrBefore
+
+unfoldable pub why_at_rest_of : Dataflow → Data → Result Query LineFault
+why_at_rest_of g d =
+    given BadShape (small_at (codes "q") d) (λ q.
+    given BadShape (extent_there d) (λ extent.
+    given BadShape (whole_at (codes "rest") d) (λ limit.
+    after (point_there g d) (λ point.
+    Ok (WhyAtRest (record { asked = record { q = q; point = point; extent = extent }; limit = limit }))))))
+
 -- the query of a form
 abbrev pub query_of : Version → Dataflow → QueryForm → Data → Result Query LineFault
 query_of v g form.State d = Ok State
@@ -136,6 +148,7 @@ query_of v g form.FrontierAt d = frontier_at_of g d
 query_of v g form.WhyBefore d = why_before_of g d
 query_of v g form.Reach d = reach_of v g d
 query_of v g form.ReachWith d = reach_with_of v g d
+query_of v g form.WhyAtRest d = why_at_rest_of g d
 
 -- ---- from when memory is asked for
 
@@ -147,6 +160,10 @@ WhenAsks v d = IsSomeAnd (get (codes "when") d) (ConditionAsks v)
 unfoldable pub WhyBeforeAsks : Data → Type 0
 WhyBeforeAsks d = IsSomeAnd (boolean_at (codes "before") d) (λ strictly. PassedAsks d)
 
+-- {"at":name,"rest":n,"time":t,"why":q}, with "before":bool or without
+unfoldable pub WhyAtRestAsks : Data → Type 0
+WhyAtRestAsks d = IsSomeAnd (extent_there d) (λ extent. IsSomeAnd (whole_at (codes "rest") d) (λ limit. PassedAsks d))
+
 -- {"at":name,"changes":q,"hi":n,"lo":n,"time":t}
 unfoldable pub ChangesAsks : Data → Type 0
 ChangesAsks d = IsSomeAnd (whole_at (codes "lo") d) (λ lo. IsSomeAnd (whole_at (codes "hi") d) (λ hi. PassedAsks d))
@@ -157,6 +174,7 @@ QueryAsks v form.Before d = HasList (codes "from") d
 QueryAsks v form.Passed d = PassedAsks d
 QueryAsks v form.Why d = PassedAsks d
 QueryAsks v form.WhyBefore d = WhyBeforeAsks d
+QueryAsks v form.WhyAtRest d = WhyAtRestAsks d
 QueryAsks v form.Changes d = ChangesAsks d
 QueryAsks v form.Search d =
     IsSomeAnd (whole_at (codes "lo") d) (λ lo.

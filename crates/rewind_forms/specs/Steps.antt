@@ -121,7 +121,7 @@ read_as g d (line.Step form) = step_of Sixth g form d
 read_as g d (line.Command form) = Err BadShape
 read_as g d (line.Query form) = Err BadShape
 
--- the step that a value describes in a script of the last version, or the error
+-- the step that a value describes in a script of version 6, or the error
 unfoldable pub read_of : Dataflow → Data → Result (Step Global) LineFault
 read_of g d = given BadShape (form_of Sixth d) (read_as g d)
 

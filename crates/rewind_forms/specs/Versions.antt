@@ -3,9 +3,9 @@ use Rattle.std.specs.Prelude.{ℕ, Bool, nat_eq, nat_le, [], ◌∷◌, if◌the
 use Rattle.serde_json.specs.Data.{Data}
 use Rattle.nd_json.specs.Forms.{has_keys, whole_at}
 use Rattle.rewind_forms.specs.declared.version.Version.{Version}
-use Rattle.rewind_forms.specs.declared.version.Version.TheVariants.{First, Second, Third, Fourth, Fifth, Sixth, Seventh}
+use Rattle.rewind_forms.specs.declared.version.Version.TheVariants.{First, Second, Third, Fourth, Fifth, Sixth, Seventh, Eighth}
 
--- a script's version as a number, from 1 to 7
+-- a script's version as a number, from 1 to 8
 abbrev pub number_of : Version → ℕ
 number_of First = 1
 number_of Second = 2
@@ -14,6 +14,7 @@ number_of Fourth = 4
 number_of Fifth = 5
 number_of Sixth = 6
 number_of Seventh = 7
+number_of Eighth = 8
 
 -- the version of this number, if a line can name it
 unfoldable pub numbered : ℕ → Option Version
@@ -23,9 +24,10 @@ numbered n =
     else (if nat_eq n 4 then Some Fourth
     else (if nat_eq n 5 then Some Fifth
     else (if nat_eq n 6 then Some Sixth
-    else (if nat_eq n 7 then Some Seventh else None)))))
+    else (if nat_eq n 7 then Some Seventh
+    else (if nat_eq n 8 then Some Eighth else None))))))
 
--- the version that a value names: {"version":n} with n from 2 to 7
+-- the version that a value names: {"version":n} with n from 2 to 8
 unfoldable pub version_of : Data → Option Version
 version_of d = if has_keys (codes "version" ∷ []) d then option_and_then numbered (whole_at (codes "version") d) else None
 

@@ -3,8 +3,8 @@ ghost use Rattle.std.specs.Prelude.{◌≡◌, map};
 ghost use Rattle.serde_json.specs.View.{view};
 ghost use Rattle.rewind_forms.specs.Allowed.{allowed_at as allowed_in, allowed_of as allowed_from, nothing_allowed, with_word as with_word_of, with_item as with_item_of};
 
+use nd_cluster::Allowed;
 use nd_json::{list_at, text};
-use nd_reach::Allowed;
 use serde_json::Value;
 
 // No word.

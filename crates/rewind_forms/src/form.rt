@@ -3,7 +3,7 @@ ghost use Rattle.std.specs.Prelude.{◌≡◌};
 ghost use Rattle.serde_json.specs.View.{view};
 ghost use Rattle.rewind_forms.specs.Grammar.{find, steps, commands, queries, meant, form_of as form_in};
 
-use crate::Version::{self, Fifth, First, Fourth, Second, Seventh, Sixth, Third};
+use crate::Version::{self, Eighth, Fifth, First, Fourth, Second, Seventh, Sixth, Third};
 use nd_json::{has_keys, text_at};
 use serde_json::Value;
 
@@ -77,6 +77,9 @@ pub enum QueryForm {
     Reach,
     /// The same with the key `with`, which lets users feed or release.
     ReachWith,
+    /// Why a processor does not consider something finished when all that can happen has happened, with the key `before` or
+    /// without.
+    WhyAtRest,
 }
 
 impl Form {
@@ -216,6 +219,12 @@ fn query_form(word: &str, value: &Value) -> Option<(Version, QueryForm)>
         "reach" if has_keys(value, &["do", "limit", "when"]) => Some((Seventh, QueryForm::Reach)),
         "reach" if has_keys(value, &["do", "limit", "when", "with"]) => {
             Some((Seventh, QueryForm::ReachWith))
+        }
+        "why" if has_keys(value, &["at", "do", "q", "rest", "time"]) => {
+            Some((Eighth, QueryForm::WhyAtRest))
+        }
+        "why" if has_keys(value, &["at", "before", "do", "q", "rest", "time"]) => {
+            Some((Eighth, QueryForm::WhyAtRest))
         }
         _ => None,
     }

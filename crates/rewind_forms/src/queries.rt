@@ -6,6 +6,7 @@ ghost use Rattle.rewind_forms.specs.Atoms.{PassedAsks};
 ghost use Rattle.rewind_forms.specs.Queries.{count_of as count_in, before_of as before_in, view_of as view_in, frontier_of as frontier_in, passed_of as passed_in, search_of as search_in, query_of as query_in, ChangesAsks, QueryAsks, WhyBeforeAsks};
 ghost use Rattle.rewind_forms.specs.Queries.{why_of as why_in, changes_of as changes_in, kept_step_of as kept_step_in};
 ghost use Rattle.rewind_forms.specs.Queries.{effect_of as effect_in, turns_of as turns_in, frontier_at_of as frontier_at_in, why_before_of as why_before_in, extent_of as extent_in, reach_of as reach_in, reach_with_of as reach_with_in};
+ghost use Rattle.rewind_forms.specs.Queries.{extent_there as extent_in_there, why_at_rest_of as why_at_rest_in, WhyAtRestAsks};
 ghost use Rattle.rewind_forms.specs.declared.form.QueryForm.TheVariants as kind;
 
 use crate::allowed::{NOTHING, allowed_at};
@@ -14,11 +15,10 @@ use crate::places::{location_named, time_of};
 use crate::points::{point_at, point_there};
 use crate::{LineFault, QueryForm, Version};
 use nd_breaks::Condition;
-use nd_cluster::{Extent, Question};
+use nd_cluster::{Allowed, Extent, Question};
 use nd_graph::Graph;
 use nd_json::{boolean_at, small_at, text_at, whole_at};
 use nd_paths::Pointstamp;
-use nd_reach::Allowed;
 use serde_json::Value;
 use std::alloc::Global;
 
@@ -56,6 +56,14 @@ pub struct Reach {
     pub allowed: Allowed,
 }
 
+/// The question why a processor does not consider something finished when all that can happen has happened, which takes at most
+/// `limit` steps.
+#[derive(Drop)]
+pub struct WhyAtRest {
+    pub asked: Question,
+    pub limit: u64,
+}
+
 /// A query, which changes nothing.
 #[derive(Drop)]
 pub enum Query {
@@ -91,6 +99,8 @@ pub enum Query {
     FrontierAt(u32, usize),
     /// The steps by which a condition can still come to hold.
     Reach(Reach),
+    /// The reasons that are left when all that can happen has happened.
+    WhyAtRest(WhyAtRest),
 }
 
 #[tactic(auto, unfolding(crate::specs::Queries::count_of))]
@@ -272,6 +282,38 @@ fn why_before_of(alloc: Global, graph: &Graph, value: &Value) -> Result<Query, L
     }))
 }
 
+// Returns which pointstamps a question is about: those at or before, if there is no key `before`.
+#[tactic(auto, unfolding(crate::specs::Queries::extent_there))]
+fn extent_at(value: &Value) -> Option<Extent>
+    ensures { result ≡ extent_in_there (view value.now) }
+{
+    if value.get("before").is_none() {
+        return Some(Extent::AtOrBefore);
+    }
+    let strictly = boolean_at(value, "before")?;
+    Some(extent_of(strictly))
+}
+
+#[tactic(auto, unfolding(crate::specs::Queries::why_at_rest_of, crate::specs::Queries::WhyAtRestAsks))]
+fn why_at_rest_of(alloc: Global, graph: &Graph, value: &Value) -> Result<Query, LineFault>
+    ensures ok { IfOk result (λ c. why_at_rest_in graph.now (view value.now) ≡ Ok c) }
+    ensures err { IfErr result (FailsWith (why_at_rest_in graph.now (view value.now))) }
+    ensures memory { IfErr result (OnlyIf (WhyAtRestAsks (view value.now))) }
+{
+    let q = small_at(value, "q").ok_or(LineFault::BadShape)?;
+    let extent = extent_at(value).ok_or(LineFault::BadShape)?;
+    let limit = whole_at(value, "rest").ok_or(LineFault::BadShape)?;
+    let point = point_there(alloc, graph, value)?;
+    Ok(Query::WhyAtRest(WhyAtRest {
+        asked: Question {
+            q: q as usize,
+            point,
+            extent,
+        },
+        limit,
+    }))
+}
+
 #[tactic(auto, unfolding(crate::specs::Queries::reach_of))]
 fn reach_of(
     alloc: Global,
@@ -346,5 +388,6 @@ pub fn query_of(
         QueryForm::WhyBefore => why_before_of(alloc, graph, value),
         QueryForm::Reach => reach_of(alloc, version, graph, value),
         QueryForm::ReachWith => reach_with_of(alloc, version, graph, value),
+        QueryForm::WhyAtRest => why_at_rest_of(alloc, graph, value),
     }
 }

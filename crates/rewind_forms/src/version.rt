@@ -24,6 +24,8 @@ pub enum Version {
     Sixth,
     /// Adds queries for what can still happen, and runs by a seed.
     Seventh,
+    /// Adds queries why a time is not considered finished when all that can happen has happened.
+    Eighth,
 }
 
 impl Version {
@@ -39,6 +41,7 @@ impl Version {
             Version::Fifth => 5,
             Version::Sixth => 6,
             Version::Seventh => 7,
+            Version::Eighth => 8,
         }
     }
 
@@ -67,6 +70,8 @@ fn numbered(number: u64) -> Option<Version>
         Some(Version::Sixth)
     } else if number == 7 {
         Some(Version::Seventh)
+    } else if number == 8 {
+        Some(Version::Eighth)
     } else {
         None
     }

@@ -4,6 +4,7 @@ use crate::ends::{NEVER, Newlines, Pieces, Taken, empty_sink, pieces_of};
 use crate::runs::{HELD, LINE, LINE_REPLY};
 use nd_testing::Sign;
 use rewind::{DebugFault, Gate, OpenGate, Options, debug_clients, debug_clients_within};
+use rewind_lines::{Sink, Unwritten};
 use std::alloc::{AllocError, Global};
 use std::rt::Clock;
 use std::sync::Wait;
@@ -58,6 +59,61 @@ fn clients_at_the_same_time(rt: HostRuntime) -> Result<(), Fail> {
     let other_way = format!(in alloc; "{LINE_REPLY}{second}{first}")?;
     let wrote = sink.bytes.as_slice();
     assert!(rt; wrote == one_way.as_bytes() || wrote == other_way.as_bytes());
+    Ok(())
+}
+
+/// A sink that gives a sign once something is written.
+#[derive(Drop)]
+struct Signed<'a, R: Clock> {
+    taken: Taken,
+    written: &'a Sign<'a, R>,
+}
+
+impl<R: Clock> Sink for Signed<'_, R> {
+    ghost failed = { λ s. s.taken.has_failed };
+
+    fn write(&mut self, bytes: &[u8]) -> Result<usize, Unwritten> {
+        let n = self.taken.write(bytes)?;
+        self.written.give();
+        Ok(n)
+    }
+}
+
+/// Gives a sign if a client comes to a command before anything is written.
+#[derive(Drop)]
+struct Early<'a, R: Clock> {
+    written: &'a Sign<'a, R>,
+    early: Sign<'a, R>,
+}
+
+impl<R: Clock + Sync> Gate for Early<'_, R> {
+    fn call(&self, _who: u64, _number: u64) {
+        if !self.written.came() {
+            self.early.give();
+        }
+    }
+}
+
+/// Checks that the reply to the graph's line is written before the clients begin.
+#[test]
+fn clients_begin_after_the_opening(rt: HostRuntime) -> Result<(), Fail> {
+    let alloc = rt.alloc();
+    let script = feed_of(alloc)?;
+    let written = Sign::new(&rt);
+    let gate = Early {
+        written: &written,
+        early: Sign::new(&rt),
+    };
+    let mut source = pieces_of(script.as_slice(), 1000, NEVER);
+    let mut sink = Signed {
+        taken: empty_sink(alloc, 1000, NEVER, false),
+        written: &written,
+    };
+    let ended = debug_clients(&rt, alloc, &mut source, &mut sink, &TWO, &gate);
+    assert!(rt; ended == Ok(()));
+    assert!(rt; written.came() && !gate.early.came());
+    let wrote = sink.taken.bytes.as_slice();
+    assert!(rt; wrote.starts_with(LINE_REPLY.as_bytes()));
     Ok(())
 }
 

@@ -2,7 +2,8 @@
 
 use crate::runs::{HELD, ONE, TRACED, run};
 use nd_graph::{Graph, GraphDraft};
-use rewind_forms::{read_step, text_of};
+use rewind_forms::read_step;
+use rewind_replies::text_of;
 use serde_json::Value;
 use std::alloc::{AllocError, Global};
 use std::test::Fail;

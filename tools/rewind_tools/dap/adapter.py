@@ -7,7 +7,6 @@ long move, if there is one. So a run can be paused, and no two requests are answ
 import collections
 import os
 import queue
-import tempfile
 import threading
 
 from rewind_tools import opening, tool
@@ -21,7 +20,9 @@ from rewind_tools.dap.requests import ENDED, HANDLERS, LAUNCHED, NEW, READY, RUN
 from rewind_tools.dap.scripted import Scripted
 from rewind_tools.dap.steps import Steps
 from rewind_tools.dap.variables import Variables
-from rewind_tools.session import Ended, Session, script_of
+from rewind_tools.journal import left_behind
+from rewind_tools.session import Ended, Session
+from rewind_tools.sources import places_of
 
 STARTED = (LAUNCHED, RUNNING, STOPPED)
 MOST_PROCESSORS = tool.MOST["processors"]
@@ -71,11 +72,21 @@ class Adapter(Asking, Breaking):
                 item = fault
             except OSError:
                 item = None
-            if isinstance(item, dict) and item["command"] in STOPPING:
+            if self.is_stopping(item):
                 self.stopping.append(item)
+                if self.console:
+                    self.console.second.stop()
             self.inbox.put(item)
             if item is None or isinstance(item, framing.Broken):
                 return
+
+    def is_stopping(self, item):
+        """Whether what was read stops what is under way."""
+        if not isinstance(item, dict) or item["command"] != "cancel":
+            return item is None or isinstance(item, dict) and item["command"] in STOPPING
+        asked, now = item.get("arguments"), self.reply_to
+        wanted = asked.get("requestId") if isinstance(asked, dict) else None
+        return wanted is None or now is not None and wanted == now["seq"]
 
     def next_item(self):
         try:
@@ -86,8 +97,8 @@ class Adapter(Asking, Breaking):
     def take(self, item):
         """Takes what was read."""
         if isinstance(item, dict):
-            if item["command"] in STOPPING:
-                self.stopping.popleft()
+            if item in self.stopping:
+                self.stopping.remove(item)
             self.answer(item)
         elif isinstance(item, framing.NoRequest):
             self.say(str(item), "stderr")
@@ -262,7 +273,8 @@ class Adapter(Asking, Breaking):
     def open_session(self):
         """Opens the session of a script, whose lines are not executed yet."""
         try:
-            script = opening.read(tool.read_script(self.given["program"]))
+            program = self.given["program"]
+            script = opening.read(tool.read_script(program), places_of(program))
         except (tool.Fault, OSError) as fault:
             raise Refused(tool.words_of(fault) if isinstance(fault, OSError) else str(fault)) from fault
         if script.graph is None:
@@ -278,7 +290,10 @@ class Adapter(Asking, Breaking):
             why = opening.graph_refused(session)
             session.close()
             raise Refused(why)
-        self.console = Console(session, lambda: bool(self.stopping))
+        for it in left_behind("live"):
+            self.say(it, "stderr")
+        shown = self.given["program"], lambda: bool(self.stopping), lambda it: self.say(it, "console")
+        self.console = Console(session, *shown)
         self.scripted = Scripted(self.console, script, self.given["program"])
         self.scripted.breaks, self.scripted.stops_at_refused = self.script_breaks, self.stops_at_refused
         self.moving = Moving(self.console, self.scripted, self.say)
@@ -303,6 +318,10 @@ class Adapter(Asking, Breaking):
     def terminate(self, asked):
         self.later(lambda: self.end(0))
 
+    @on("cancel", NEW, READY, *STARTED, ENDED)
+    def cancel(self, asked):
+        """What was asked has stopped when this is answered."""
+
     @on("disconnect", NEW, READY, *STARTED, ENDED)
     def disconnect(self, asked):
         self.end_session()
@@ -317,27 +336,15 @@ class Adapter(Asking, Breaking):
         self.state = ENDED
 
     def end_session(self):
-        """Ends the program. Steps that no file has are written to one, which is named."""
+        """Ends the program. Steps that no file has are in one that is named."""
         console, self.console, self.work = self.console, None, None
         if console is None:
             return
-        try:
-            if console.is_unsaved and console.kept and console.changes != self.scripted.changes:
-                self.save(console)
-            console.dropped.close()
-        finally:
-            console.session.close()
-
-    def save(self, console):
-        """Writes the kept steps to a file."""
-        try:
-            script = script_of(console.session)
-            number, path = tempfile.mkstemp(prefix="rewind-", suffix=".jsonl")
-            with open(number, "w", encoding="utf-8") as it:
-                it.write(script)
+        path = console.journal.close()
+        if path:
             self.say(f"the kept steps are in {path}")
-        except (Ended, OSError):
-            pass  # what the program had is lost with it
+        console.session.close()
+        console.second.close()
 
 
 STOPPING = ("pause", "restart", "terminate", "disconnect")

@@ -5,6 +5,7 @@ import os
 from rewind_tools.dap.console import WouldDiscard, is_question
 from rewind_tools.dap.moving import Stop
 from rewind_tools.dap.requests import LAUNCHED, RUNNING, STOPPED, Refused, on
+from rewind_tools.journal import Stopped
 from rewind_tools.tool import words_of
 from rewind_tools.typed import NotTyped, line_of, words_of_line
 
@@ -113,7 +114,7 @@ class Asking:
             if words_of_line(text)[:1] == ["why"]:
                 return self.why(line_of(words_of_line(text)))
             return {"result": self.typed(text), "variablesReference": 0}
-        except (NotTyped, WouldDiscard) as fault:
+        except (NotTyped, Stopped, WouldDiscard) as fault:
             raise Refused(str(fault)) from fault
         except OSError as fault:
             raise Refused(words_of(fault)) from fault
@@ -128,11 +129,11 @@ class Asking:
 
     def typed(self, text):
         """What is said of a typed line. If it moves the cursor, the editor is told so."""
-        before = self.console.at, self.console.changes
+        before = self.console.at, self.console.journal.changes
         try:
             return self.console.answer_to(text)
         finally:
-            if (self.console.at, self.console.changes) != before:
+            if (self.console.at, self.console.journal.changes) != before:
                 self.later(lambda: self.stopped(Stop("step")))
 
     @on("completions", STOPPED)

@@ -13,6 +13,7 @@ CAPABILITIES = {
     "completionTriggerCharacters": [" "],
     "supportsExceptionInfoRequest": True,
     "supportsTerminateRequest": True,
+    "supportsCancelRequest": True,
     "supportsLoadedSourcesRequest": True,
     "supportsSingleThreadExecutionRequests": True,
     "exceptionBreakpointFilters": [

@@ -52,14 +52,15 @@ class Asked:
 
 
 class Console(Prompt):
-    """A session's prompt. `same_to` is up to which position the kept steps are those that were listed last,
-    `changes` counts what has changed them, and `whens` has the condition of each breakpoint that is set."""
+    """A session's prompt. `whens` has the condition of each breakpoint that is set, and `show_progress` is
+    told how far something long is."""
 
-    def __init__(self, session, is_wanted):
-        super().__init__(session)
+    def __init__(self, session, name, is_wanted, show_progress):
+        self.show_progress = show_progress
+        super().__init__(session, name)
         self.stop = Asked(is_wanted)
         self.said, self.may_discard, self.asked_about = [], False, None
-        self.same_to, self.changes, self.whens = 0, 0, {}
+        self.whens = {}
 
     def say(self, text):
         self.said.append(plain(text))
@@ -73,16 +74,6 @@ class Console(Prompt):
         return "\n".join(said)
 
     # ---- what is kept of the replies
-
-    def keep(self, value, reply):
-        if reply.get("at", -1) > self.at and value["do"] in (*STEPS, "run"):
-            self.has_changed_from(self.at)
-        super().keep(value, reply)
-
-    def has_changed_from(self, position):
-        """Notes that other steps are kept past a position."""
-        self.same_to = min(self.same_to, position)
-        self.changes += 1
 
     def keep_breaks(self, value, reply):
         super().keep_breaks(value, reply)
@@ -116,15 +107,8 @@ class Console(Prompt):
     def do_load(self, rest):
         self.check_discard()
         super().do_load(rest)
-        self.has_changed_from(0)
 
     do_load.__doc__ = Prompt.do_load.__doc__
-
-    def do_undrop(self, rest):
-        super().do_undrop(rest)
-        self.has_changed_from(0)
-
-    do_undrop.__doc__ = Prompt.do_undrop.__doc__
 
     def do_quit(self, rest):
         """quit: the editor ends the session"""
@@ -136,6 +120,7 @@ class Console(Prompt):
         """What is said of a typed line. The same line a second time may discard kept steps."""
         self.said = []
         self.may_discard, self.asked_about = self.asked_about == text, None
+        self.progress.begin()
         try:
             with self.stop:
                 cmd.Cmd.onecmd(self, text)

@@ -39,7 +39,7 @@ class Scripted:
 
     def is_lost(self):
         """Whether lines are left, but other steps are kept than those that the script has led to."""
-        return bool(self.left) and self.console.changes != self.changes
+        return bool(self.left) and self.console.journal.changes != self.changes
 
     def leave(self):
         """Leaves out the lines that are left: what is said of that."""
@@ -50,18 +50,26 @@ class Scripted:
 
     def line(self):
         """Executes the next line; true if it stops there, since it was refused."""
-        line = self.script.lines[self.done]
-        reply = self.console.session.ask_texts([line.text])[0]
+        line, journal = self.script.lines[self.done], self.console.journal
+        if opening.is_long(line):
+            reply = journal.run(line.value, True)[0]
+        else:
+            reply = journal.session.ask_texts([line.text])[0]
+            journal.keep(line.value, reply, True, line)
         entry = opening.Executed(line, reply)
-        self.done += 1
+        if reply.get("stop") == "interrupt":
+            left = {**line.value, "limit": line.value["limit"] - reply["ran"]}
+            self.script.lines[self.done] = line._replace(value=left)
+        else:
+            self.done += 1
         self.console.keep_breaks(line.value, reply)
-        self.console.keep(line.value, reply)
         self.refused += "error" in reply
         self.shown = self.fault = None
         if "error" in reply and self.stops_at_refused:
             why = plain(opening.refusal(entry, self.console.teller))
             self.shown, self.fault = line, (reply["error"], why)
-        self.place, self.changes = self.here(), self.console.changes
+        self.place, self.changes = self.here(), journal.changes
+        self.console.progress.report(f"line {line.number} of {self.script.lines[-1].number}")
         return self.fault is not None
 
     def stops_before(self):

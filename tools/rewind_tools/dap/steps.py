@@ -20,10 +20,10 @@ class Steps:
 
     def changed(self):
         """Whether the list has changed since this was asked last. A file is kept the same as it."""
-        console = self.console
-        has_changed = console.same_to < self.listed or console.kept != self.listed
-        del self.words[console.same_to :]
-        console.same_to = self.listed = console.kept
+        journal = self.console.journal
+        has_changed = journal.same_to < self.listed or journal.kept != self.listed
+        del self.words[journal.same_to :]
+        journal.same_to = self.listed = journal.kept
         self.reference += has_changed
         if self.path and (has_changed or self.reference == 1):
             self.write()

@@ -146,7 +146,7 @@ class Variables:
                 said = self.teller.refused(step, refused, None)[0]
                 opened = partial(self.why, question) if question else None
                 name = command_words(step).removeprefix(f"processor {p} ")
-                found.append(Variable(name, said.removeprefix("refused, "), opened))
+                found.append(Variable(name, said.removeprefix("refused: "), opened))
         return found
 
     def why(self, question):

@@ -11,13 +11,15 @@ A batch is planned as if none of its lines were refused (merging.py). At the fir
 the run goes back to the position before it; it and all that follows it in the batch count as not executed,
 and the next batch is planned from there. The queries of a batch are answered at their place in it, since the
 program answers in the order of the lines. A receive that is passed over is given to the program as one of
-nobody (reading.py)."""
+nobody (reading.py). A broadcast with more points than a line of the script may have is executed in parts,
+the points with positive entries first: the negative entries that support them are then left out, too."""
 import json
 from typing import NamedTuple
 
 from rewind_tools.following.comparing import change_of, different_members
-from rewind_tools.following.merging import LAST, PASSED, STEPS, may_be_nothing
-from rewind_tools.following.reading import is_unread, of_nobody
+from rewind_tools.following.merging import LAST, PASSED, STEPS, is_long, may_be_nothing
+from rewind_tools.following.reading import compact, is_unread, of_nobody
+from rewind_tools.following.traces import LONGEST
 from rewind_tools.tool import Fault
 
 MOST_STEPS = 1_000_000
@@ -51,7 +53,9 @@ class Follower:
 
     def follow(self):
         """Executes what can be executed."""
+        count = sum(map(len, self.merging.lines))
         while not self.merging.is_done():
+            self.program.progress("executed", sum(self.merging.at), count)
             batch = self.merging.plan(MOST_STEPS - self.position)
             if batch.items:
                 self.execute(batch)
@@ -74,7 +78,7 @@ class Follower:
         replies = self.program.ask(texts)
         begin = 0
         for at, (item, width) in enumerate(zip(batch.items, widths)):
-            outcome = self.judged(item, replies[begin : begin + width])
+            outcome = self.judged(item, texts[begin : begin + width], replies[begin : begin + width])
             if outcome:
                 steps = [it for it in replies[begin:] if it.startswith(b'{"at":')]
                 self.go_back(batch.items[at:], outcome, bool(steps))
@@ -89,30 +93,42 @@ class Follower:
             line, count = item.line, len(texts)
             if item.kind == PASSED:
                 texts.append(of_nobody(line.word, line.worker, line.text))
-            else:
-                texts.append(line.text)
+            for text in self.step_texts(item) if item.kind != PASSED else ():
+                texts.append(text)
                 position += line.word in STEPS
                 if line.own.change is not None:
                     texts.append(b'{"do":"effect","to":%d}' % position)
             widths.append(len(texts) - count)
         return texts, widths
 
-    def judged(self, item, replies):
+    def step_texts(self, item):
+        """The lines that the program executes for an item."""
+        if not is_long(item.line):
+            return [item.line.text] * item.steps
+        unsent = self.program.asked({"do": "state"})["state"]["processors"][item.line.worker]["unsent"]
+        parts = parts_of(item.line, unsent)
+        item.steps = len(parts)
+        return parts
+
+    def judged(self, item, texts, replies):
         """Compares the replies to an item with what its line says; None if the next is to be looked at."""
         line = item.line
         if item.kind == PASSED:
             return Wrong("refused", line, json.loads(replies[0])) if is_unread(replies[0]) else None
         if line.word not in STEPS:
             return self.judged_query(line, json.loads(replies[0]))
-        if replies[0] != b'{"at":%d,"kept":%d,"ok":true}\n' % (self.position + 1, self.position + 1):
-            return self.refused(item, json.loads(replies[0]))
+        width = 1 + (line.own.change is not None)
+        for at, reply in enumerate(replies[::width], self.position + 1):
+            if reply != b'{"at":%d,"kept":%d,"ok":true}\n' % (at, at):
+                return self.refused(item, json.loads(reply))
         if line.own.change is not None:
-            moved = change_of(line, self.effect(replies[1]))
+            effects = (change_of(line, self.effect(it)) for it in replies[1::2])
+            moved = {point: n for of in effects for point, n in of.items()}
             if moved != line.own.change:
                 entries = [[name, list(time), n] for (name, time), n in moved.items()]
                 return Wrong("differs", line, {"change": entries})
-        self.position += 1
-        self.executed.append(line)
+        self.position += item.steps
+        self.executed += [line if item.steps == 1 else line.part(it) for it in texts[::width]]
         self.merging.executed_line(item)
         return None
 
@@ -162,3 +178,14 @@ class Follower:
                 outcome = Again(reply["code"])
         if isinstance(outcome, Again):
             self.program.again([it.text for it in self.executed if it.word in STEPS])
+
+
+def parts_of(line, unsent):
+    """The broadcasts that together have the points of one: first those at which the worker's unsent entries
+    are positive."""
+    value, n_of = json.loads(line.text), {(name, tuple(time)): n for name, time, n in unsent}
+    points = [it for it in value["part"] if (it[0], tuple(it[1])) in n_of] or value["part"][:1]
+    points.sort(key=lambda it: n_of.get((it[0], tuple(it[1])), 0) < 0)
+    longest = max(len(compact(it)) for it in points) + 1
+    size = max(1, (LONGEST - len(compact({**value, "part": []}))) // longest)
+    return [compact({**value, "part": points[at : at + size]}) for at in range(0, len(points), size)]

@@ -8,7 +8,8 @@ A plan goes round the workers, and takes the next lines of each until one waits.
 edges that leave inputs, opaque vertices and most others, and the changes in each queue; so a take or a
 receive is planned only if the lines before it put there what it takes. A planned line that is refused is
 wrong: no order of the others makes it possible. What follows it in the batch was executed in vain, and is
-taken back (checking.py). A plan leaves two things open, and no line in a batch depends on how they end:
+taken back (checking.py). A broadcast in parts is alone in its batch. A plan leaves two things open, and no
+line in a batch depends on how they end:
 
 - A take from an exchange edge that leaves a sum or a distinct, whose records are not counted. It is the last
   line of its worker in the batch. If there is no record, it is tried again after another worker has executed
@@ -16,6 +17,8 @@ taken back (checking.py). A plan leaves two things open, and no line in a batch 
 - A broadcast that has a number and no change, and may have nothing to send: then it is passed over. No
   receive of it is in the batch, and no line after it has a change: its position in the run is not known."""
 from collections import Counter
+
+from rewind_tools.following.traces import LONGEST
 
 # How many lines a batch has, and how many of one worker before the next worker's turn.
 MOST, TURN = 2_000, 64
@@ -29,13 +32,19 @@ def may_be_nothing(line):
     return line.word == "broadcast" and line.own.number is not None and not line.own.change
 
 
+def is_long(line):
+    """Whether a broadcast has too many points for a line of the script, and so is executed in parts."""
+    return line.word == "broadcast" and len(line.text) > LONGEST
+
+
 class Item:
-    """A line in a batch: how it was planned, and the last number that was received before it."""
+    """A line in a batch: how it was planned, the last number that was received before it, and how many steps
+    it has: several if it is a broadcast in parts, or a receive of one."""
 
-    __slots__ = ("line", "kind", "got")
+    __slots__ = ("line", "kind", "got", "steps")
 
-    def __init__(self, line, kind, got):
-        self.line, self.kind, self.got = line, kind, got
+    def __init__(self, line, kind, got, steps):
+        self.line, self.kind, self.got, self.steps = line, kind, got, steps
 
 
 class Batch:
@@ -46,7 +55,7 @@ class Batch:
     def add(self, item):
         self.items.append(item)
         if item.kind != PASSED and item.line.word in STEPS:
-            self.steps += 1
+            self.steps += item.steps
         if item.kind == LAST:
             self.ended.add(item.line.worker)
         if item.kind == LAST or may_be_nothing(item.line):
@@ -57,6 +66,8 @@ class Batch:
         if line.worker in self.ended or len(self.items) >= MOST:
             return False
         if line.word in STEPS and self.steps >= self.most_steps:
+            return False
+        if self.items and (is_long(line) or is_long(self.items[-1].line)):
             return False
         return line.own.change is None or not self.is_open
 
@@ -72,6 +83,8 @@ class Merging:
         # by sender and receiver the last number that was received, and how many changes are on their way
         self.got = [[0] * count for _ in lines]
         self.queued = [[0] * count for _ in lines]
+        # by sender and number how many parts a broadcast has that was executed in parts
+        self.parts = {}
         # by vertex how many lines it has executed, and by worker how many there were at a take in vain
         self.executed, self.tried = Counter(), [None] * count
 
@@ -102,7 +115,10 @@ class Merging:
             self.plan_line(line, kind, batch)
 
     def plan_line(self, line, kind, batch):
-        batch.add(Item(line, kind, self.got_before(line)))
+        got, steps = self.got_before(line), 1
+        if self.parts and got is not None:
+            steps = self.parts.get((line.needs, self.following(line)), 1)
+        batch.add(Item(line, kind, got, steps))
         self.at[line.worker] += 1
         if kind != LAST:
             self.apply(line, kind)
@@ -224,6 +240,8 @@ class Merging:
         line = item.line
         if item.kind == LAST:
             self.apply(line, READY)
+        if line.word == "broadcast" and item.steps > 1:
+            self.parts[line.worker, self.sent[line.worker]] = item.steps
         if line.word == "take":
             self.executed[self.places.target(line.needs[0])["name"]] += 1
         elif line.word == "notice":

@@ -1,10 +1,13 @@
 """The program that executes the lines of the traces, in the last version of the script that it has.
 
     program = Program(graph, 3, on_note)        GraphRefused, if it refuses the graph
+    program.progress("read", 1000, 5000)        says now and then how far the lines are read or executed
     program.ask([b"..", b".."])                 the reply to each line, as bytes
     program.asked({"do": "state"})              the reply to one line, as a value
     program.again([b"..", ..])                  a new process, which executes these lines first
     program.close()"""
+import time
+
 from rewind_tools.session import Session, VersionRefused
 from rewind_tools.telling.faults import faulty
 from rewind_tools.telling.graph_faults import graph_faults
@@ -14,6 +17,8 @@ from rewind_tools.tool import Fault
 VERSIONS = (6, 5)
 # How many lines are executed again at once.
 PIECE = 2_000
+# How many seconds pass before it is said how far the lines are; then it is said as long after that again.
+FIRST = 2
 
 
 class GraphRefused(Exception):
@@ -27,12 +32,16 @@ class GraphRefused(Exception):
 class Program:
     def __init__(self, graph, workers, on_note):
         self.graph, self.words = graph, ["--processors", str(workers)]
-        self.on_note, self.noted = on_note, set()
+        self.start(on_note)
         self.session = self.opened()
         self.version, reply = self.session.version, self.session.started
         if "error" in reply:
             self.close()
             raise GraphRefused(*faulty(reply, graph_faults(graph, reply, self.version)))
+
+    def start(self, on_note):
+        self.on_note, self.noted = on_note, set()
+        self.begun, self.wait = time.monotonic(), FIRST
 
     def opened(self):
         for version in VERSIONS[:-1]:
@@ -47,6 +56,12 @@ class Program:
         if text not in self.noted:
             self.noted.add(text)
             self.on_note(text)
+
+    def progress(self, what, done, count):
+        """Says how far the lines are, if that takes some seconds."""
+        if time.monotonic() - self.begun >= self.wait:
+            self.wait = 2 * (time.monotonic() - self.begun)
+            self.on_note(f"follow: {done:,} of {count:,} lines {what} so far")
 
     def ask(self, texts):
         return self.session.ask_lines(texts)

@@ -15,11 +15,12 @@ not read has another reply."""
 import json
 from typing import NamedTuple
 
+from rewind_tools.following import counted
 from rewind_tools.following.epochs import Tokens, is_whole
-from rewind_tools.following.traces import QUERIES, STEPS, own_fault, own_of, parsed, worker_key
+from rewind_tools.following.traces import LONGEST, QUERIES, STEPS
+from rewind_tools.following.traces import own_fault, own_of, parsed, point_fault, worker_key
 from rewind_tools.tool import Fault
 
-LONGEST = 65_536
 # A processor that is not there.
 NOBODY = 2**32 - 1
 # How many lines the program is asked at once.
@@ -39,14 +40,16 @@ class Unreadable(Exception):
 
 
 class Own(NamedTuple):
-    """What a line's own keys say: its number, the change as numbers by points, the members of its reply."""
+    """What a line's own keys say: its number, the change as numbers by points, the members of its reply; and
+    of the change what is counted differently (counted.py)."""
 
     number: int | None
     change: dict | None
     answer: dict | None
+    counted: dict
 
 
-NOTHING_OWN = Own(None, None, None)
+NOTHING_OWN = Own(None, None, None, counted.NOTHING)
 
 
 class Line:
@@ -56,6 +59,12 @@ class Line:
         self.worker, self.number, self.word, self.text = worker, number, word, text
         # the record of a take, the vertex of a notice, the sender of a receive
         self.needs, self.makes, self.own = None, NOTHING, NOTHING_OWN
+
+    def part(self, text):
+        """The line of a part of a step."""
+        made = Line(self.worker, self.number, self.word, text)
+        made.needs = self.needs
+        return made
 
 
 def summed(entries):
@@ -90,11 +99,12 @@ class Reader:
 
     def __init__(self, trace, epochs, places, program):
         self.trace, self.epochs, self.places, self.program = trace, epochs, places, program
-        self.tokens, self.times = Tokens(), {}
+        self.tokens, self.times, self.counts = Tokens(), {}, counted.Counts(program.graph)
 
     def read(self):
         lines = []
-        for it in self.trace.lines:
+        for at, it in enumerate(self.trace.lines):
+            self.program.progress("read", at, len(self.trace.lines))
             number, value, own, text = self.prepared(*it)
             if isinstance(own, str):
                 raise NoLine
@@ -106,11 +116,13 @@ class Reader:
 
     def prepared(self, number, text):
         """A line's number, its value with ranks, its own keys, and its text for the program."""
-        value = parsed(text) if len(text) <= LONGEST else None
+        value = parsed(text) if len(text) <= LONGEST or number in self.trace.joined else None
         if not isinstance(value, dict):
             return number, value, {}, text
         own = own_of(value) if isinstance(value.get("do"), str) else {}
         why = own_fault(value, own, self.trace.worker, self.places)
+        part = value.get("part") if number in self.trace.joined else None
+        why = why or next(filter(None, (point_fault("part", it, self.places) for it in part or [])), None)
         if why:
             return number, None, why, NO_LINE
         self.epochs.rank(value)
@@ -135,6 +147,8 @@ class Reader:
         """A line's text, about a processor that is not there."""
         if not isinstance(value, dict) or not isinstance(value.get("do"), str):
             return text
+        if len(text) > LONGEST and number in self.trace.joined and "part" in value:
+            text = compact({**value, "part": value["part"][:1]})  # the others are known to be points
         return of_nobody(value["do"], self.trace.worker, text)
 
     def line(self, number, value, own, text):
@@ -159,9 +173,11 @@ class Reader:
         if word == "receive" and not is_whole(made.needs):
             raise NoLine
         hash((word, made.needs, made.makes))  # of other kinds of values there is a TypeError
+        change, left = summed(own["change"]) if "change" in own else None, counted.NOTHING
+        if word in ("broadcast", "receive"):
+            change, left = self.counts.of(value.get("from"), change)
         if own.keys() - {"note"}:
-            change = summed(own["change"]) if "change" in own else None
-            made.own = Own(own.get("number"), change, own.get("is"))
+            made.own = Own(own.get("number"), change, own.get("is"), left)
         return made
 
     def time(self, time):

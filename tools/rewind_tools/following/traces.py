@@ -1,11 +1,14 @@
 """Traces as they stand in their files: the lines of each, and what its own keys say.
 
     trace = Trace("worker-0.jsonl", 0)      the file's lines, as worker 0's
-    trace.lines                             (number, bytes) for each line that is not blank
+    trace.lines                             (number, bytes) for each line that is not blank, a line that goes
+                                            on in others as one with all their entries
+    trace.joined                            the bytes of these by their numbers
     trace.cut                               the number of a last line that was cut off, and is left out
     trace.value(12)                         line 12 as it stands
     own_of(value)                           takes the keys of a trace out of a line, which then is a script's
     own_fault(value, own, worker, places)   why a line is none of that worker's trace, in words; or None"""
+import json
 import os
 
 from rewind_tools import tool
@@ -27,6 +30,8 @@ OWN_KEYS = {
     "is": QUERIES,
     "note": (*STEPS, *QUERIES),
 }
+# The longest line, and the keys whose lists may go on in a line "more".
+LONGEST, MORE = 65_536, ("part", "change", "is")
 # An egress of a frontier's times may have a counter one above those that a script has.
 MOST_COUNTER = 2**32
 
@@ -40,6 +45,9 @@ class Trace:
         self.lines = [(number, text) for number, text in numbered if text.strip(b" \t\r")]
         if self.is_cut_off():
             self.cut, _ = self.lines.pop()
+        self.joined = {}
+        if b'"more"' in self.bytes:
+            self.join()
 
     def is_cut_off(self):
         """Whether the last line has no newline, and is no JSON."""
@@ -48,8 +56,23 @@ class Trace:
         text = self.lines[-1][1]
         return parsed(text) is None and text.strip() != b"null"
 
+    def join(self):
+        """Puts lines that go on in others together."""
+        lines, self.lines = self.lines, []
+        for number, text in lines:
+            more = parsed(text) if b'"more"' in text and len(text) <= LONGEST else None
+            whole = joined(parsed(self.lines[-1][1]), more, self.worker) if more and self.lines else None
+            if whole is None:
+                self.lines.append((number, text))
+            else:
+                first, _ = self.lines.pop()
+                self.lines.append((first, whole))
+                self.joined[first] = whole
+
     def text(self, number):
         """A line's bytes."""
+        if number in self.joined:
+            return self.joined[number]
         if self.split is None:
             self.split = self.bytes.split(b"\n")
         return self.split[number - 1]
@@ -68,6 +91,28 @@ def parsed(text):
         return value_of(text)
     except (ValueError, RecursionError):
         return None
+
+
+def joined(value, more, worker):
+    """A line's bytes with the entries that a line "more" after it adds; None if that is no such line."""
+    if not isinstance(value, dict) or not isinstance(more, dict):
+        return None
+    added = {key: it for key, it in more.items() if key in MORE}
+    is_more = more.get("do") == "more" and more.get("p") == worker
+    whole = longer(value, added) if is_more and more.keys() - {"do", "p", "note"} == added.keys() else None
+    return whole and json.dumps(whole, separators=(",", ":")).encode()
+
+
+def longer(value, added):
+    """An object whose lists have further entries; None if it does not have such a list."""
+    found = dict(value)
+    for key, it in added.items():
+        had = value.get(key)
+        is_list = isinstance(it, list) and isinstance(had, list)
+        if not is_list and not (isinstance(it, dict) and isinstance(had, dict)):
+            return None
+        found[key] = had + it if is_list else longer(had, it)
+    return None if None in found.values() else found
 
 
 def own_of(value):
@@ -89,6 +134,8 @@ def own_fault(value, own, worker, places):
     word = value.get("do")
     if not isinstance(word, str):
         return None
+    if word == "more":
+        return '"more" adds entries to "part", "change" or "is" of the line before it, which has these'
     if word not in STEPS + QUERIES:
         known = f'a trace has the lines {listed(map(shown, STEPS + QUERIES))}'
         return f"{shown(word)} is no line of a trace; {known}" if word in FORMS else None

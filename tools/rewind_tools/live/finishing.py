@@ -37,12 +37,12 @@ def condition(graph, asked):
     return passed[0] if len(passed) == 1 else {"all": passed}
 
 
-def finish(session, graph, asked):
+def finish(ask, graph, asked):
     """The fewest steps to the point's end, each in words with what it is and its line; or that there are
     none. A notification that waits for that end is the last step."""
     limit = max(1, min(int(asked.get("limit", STATES)), MOST_STATES))
     line = {"do": "reach", "when": condition(graph, asked), "limit": limit, "with": [*USERS]}
-    reply = session.ask(line)
+    reply = ask(line)
     if "error" in reply:
         return {"error": f"{reply['code']} {reply['error']}"}
     if reply["steps"] is None:

@@ -42,15 +42,15 @@ def entries_of(state):
 
 class Pictures:
     """Asks a session what its page shows. The steps of the last picture and the state at the cursor are kept
-    for the next."""
+    for the next. `with_place` says of a step in words where it comes from (rewind_tools/journal.py)."""
 
-    def __init__(self, session, teller):
-        self.session, self.teller = session, teller
+    def __init__(self, session, teller, with_place=lambda position, said: said):
+        self.session, self.teller, self.with_place = session, teller, with_place
         self.order, self.holds = teller.graph.order, teller.graph.holds
         self.ops = {name: it["op"] for name, it in teller.graph.vertices.items()}
         self.distincts = {name for name, op in self.ops.items() if op == "distinct"}
         self.depths = depths_of(session.graph)
-        self.steps, self.turned = {}, Turned(session)
+        self.steps, self.fronts, self.turned = {}, {}, Turned(session)
         self.here, self.tried, self.most_entries = (None, None), (None, None), 0
 
     def forget_from(self, position):
@@ -62,12 +62,24 @@ class Pictures:
         """The replies at the cursor: the state, the frontiers, and what the last step changed, if there is
         one. They are asked once for each number of the session's state."""
         if self.here[0] != revision:
-            lines = [{"do": "state"}]
-            lines += [{"do": "frontier", "q": q} for q in range(self.teller.processors)]
-            lines += [{"do": "effect", "to": cursor}] if has_effect and cursor else []
-            self.here = revision, self.session.ask_all(lines)
-            self.most_entries = max(self.most_entries, entries_of(self.here[1][0]["state"]))
+            lines = [{"do": "effect", "to": cursor}] if has_effect and cursor else []
+            state, *effect = self.session.ask_all([{"do": "state"}, *lines])
+            fronts = self.frontiers(state["state"], [(q, None) for q in range(self.teller.processors)])
+            self.here = revision, [state["state"], fronts, effect]
+            self.most_entries = max(self.most_entries, entries_of(state["state"]))
         return self.here[1]
+
+    def frontiers(self, state, asked):
+        """The frontiers of processors' views, and the times that can still arrive at places as far as they
+        know: each is asked once for a view."""
+        for q, it in enumerate(state["processors"]):
+            if self.fronts.get(q, (None,))[0] != it["view"]:
+                self.fronts[q] = it["view"], {}
+        new = [(q, place) for q, place in dict.fromkeys(asked) if place not in self.fronts[q][1]]
+        lines = [{"do": "frontier", "q": q, **({"at": place} if place else {})} for q, place in new]
+        for (q, place), reply in zip(new, self.session.ask_all(lines) if new else []):
+            self.fronts[q][1][place] = reply
+        return [self.fronts[q][1][place] for q, place in asked]
 
     def of(self, cursor, kept, revision, sight):
         """The picture at the cursor. `sight` names what else is in sight: the numbers of the first point and
@@ -75,10 +87,9 @@ class Pictures:
         finished, a condition, and whether what the last step changed is; each may lack."""
         first, last = window(cursor, kept)
         has_effect = sight.get("effect", True)
-        state, *others = self.at_cursor(cursor, revision, has_effect)
-        fronts, effect = others[: self.teller.processors], others[self.teller.processors :]
-        state, steps = state["state"], self.steps_in(first, last)
-        effect = self.effect(effect[0]) if effect else None
+        state, fronts, effect = self.at_cursor(cursor, revision, has_effect)
+        steps = self.steps_in(first, last)
+        effect = self.effect(effect[0], cursor) if effect else None
         rows = sight.get("points", 0), sight.get("rows", POINTS)
         return {
             "at": cursor,
@@ -90,13 +101,21 @@ class Pictures:
             "marked": effect["places"] if effect else [],
             "steps": {
                 "first": first,
-                "items": [shown_step(*it) for it in enumerate(steps, first)],
+                "items": [self.shown_step(*it) for it in enumerate(steps, first)],
                 "messages": messages(steps, first, cursor, state["queues"]),
             },
             "breaks": [{"id": key, "when": plain(when)} for key, when in sorted(self.teller.breaks.items())],
             "why": self.why(sight["why"]) if sight.get("why") else None,
-            "turns": self.turned.of(sight["when"], kept, first, last) if sight.get("when") else None,
+            "turns": self.turns(sight["when"], cursor, kept) if sight.get("when") else None,
         }
+
+    def shown_step(self, position, step):
+        shown = shown_step(position, step)
+        return {**shown, "words": self.with_place(position, shown["words"])}
+
+    def turns(self, when, cursor, kept):
+        """Where a condition turns, as far as that is known."""
+        return self.turned.of(when, cursor, kept, window(cursor, kept))
 
     def steps_in(self, first, last):
         """The steps that lead to the positions of a window."""
@@ -154,14 +173,14 @@ class Pictures:
             return None
         return {"do": "why", "q": step["p"], "at": step["vertex"], "time": step["time"], "before": True}
 
-    def effect(self, reply):
-        """What the last step changed."""
+    def effect(self, reply, position):
+        """What the last step changed, which leads to a position."""
         changed = reply["changed"]
         places = {
             it[1] for kind in ("records", "requests", "tokens", "items", "sinks") for it in changed[kind]
         }
         return {
-            "step": plain(command_words(reply["step"])),
+            "step": self.with_place(position, plain(command_words(reply["step"]))),
             "words": cut(effect_words(changed, self.holds, self.distincts), MOST_CHANGES, plain),
             "places": sorted(self.order[it] for it in places),
         }

@@ -6,22 +6,24 @@ import ipaddress
 import json
 import secrets
 import sys
-import tempfile
 import threading
 import time
 from http.server import BaseHTTPRequestHandler, ThreadingHTTPServer
 from urllib.parse import urlsplit
 
 from rewind_tools import opening
-from rewind_tools.dropped import Dropped
+from rewind_tools.journal import Journal, Stopped, opened_by
 from rewind_tools.live import finishing
 from rewind_tools.live.pictures import Pictures
+from rewind_tools.live.turned import PIECE
 from rewind_tools.page import FILES, live_page, part
 from rewind_tools.script import COMMANDS, STEPS
-from rewind_tools.session import Ended, script_of
+from rewind_tools.second import Second
+from rewind_tools.session import Ended
 from rewind_tools.telling import faults, names
 from rewind_tools.telling.answers import Teller
 from rewind_tools.telling.commands import FIRM, counted
+from rewind_tools.tool import Progress
 
 POLICY = (
     "default-src 'none'; script-src 'self'; style-src 'self'; connect-src 'self'; img-src 'self' data:;"
@@ -46,10 +48,11 @@ class Refused(Exception):
 
 
 class Live:
-    """The session of all pages: one question at a time, and a number that grows with each change."""
+    """The session of all pages: one question at a time, and a number that grows with each change. What may
+    take long is asked of a second program meanwhile; `progress` says how far it is. `say` prints a line."""
 
-    def __init__(self, session, name):
-        self.session, self.name = session, name
+    def __init__(self, session, name, say=print):
+        self.session, self.name, self.say = session, name, say
         self.lock = threading.Lock()
         self.teller = Teller(
             names.Graph(session.graph, session.version),
@@ -57,41 +60,52 @@ class Live:
             False,
             session.version,
         )
-        self.pictures, self.dropped = Pictures(session, self.teller), Dropped(session)
-        self.at = self.kept = self.revision = 0
-        self.ended, self.saved_at = None, 0
+        self.journal = Journal(session, name, say)
+        self.pictures = Pictures(session, self.teller, self.journal.with_place)
+        self.second = Second(self.journal, self.show_progress)
+        self.revision, self.ended, self.progress = 0, None, ""
+        self.is_cancelled = self.is_closing = False
+        session.on_end(self.has_ended)
+
+    at, kept = property(lambda it: it.journal.at), property(lambda it: it.journal.kept)
+
+    def show_progress(self, text):
+        self.progress = text
+
+    def has_ended(self):
+        """Says that the program has ended, and where the steps are."""
+        if self.is_closing:
+            return
+        with self.lock:
+            path = self.journal.close()
+            there = [f"the kept steps are saved: {opened_by('live', path)}"] if path else []
+            self.ended = "; ".join([self.session.end_words(), *there])
+        self.say(self.ended)
 
     def close(self):
-        """Ends the session. Returns the path of a file with its kept steps, if a page has changed them and
-        has not saved them."""
-        path = None
-        try:
-            if self.revision > self.saved_at and self.kept and not self.ended:
-                script = script_of(self.session)
-                number, path = tempfile.mkstemp(prefix="rewind-", suffix=".jsonl")
-                with open(number, "w", encoding="utf-8") as it:
-                    it.write(script)
-        finally:
-            self.dropped.close()
-            self.session.close()
-        return path
+        """Ends the session at once. Returns the path of a file with its kept steps, if there are some that
+        no other file has."""
+        self.is_closing = True
+        for it in (self.session, self.second):
+            it.kill()
+        self.lock.acquire(timeout=1)  # a step that was answered is still written
+        return self.journal.close()
 
     def execute(self, lines):
         """Executes a script's lines before a page is there; returns why some were refused."""
-        refused = []
-        for entry in opening.executed(self.session, lines):
+        refused, self.journal.report = [], Progress(self.say).report
+        for entry in opening.executed(self.journal, lines, True):
             if "line" not in entry.reply:
                 self.note(entry.line.value, entry.reply)
             why = opening.refusal(entry, self.teller)
             refused += [why] if why else []
+        self.journal.report, self.journal.may_go_on = self.show_progress, lambda: not self.is_cancelled
         return refused
 
     def note(self, value, reply):
         self.teller.keep(value, reply)
         if value["do"] == "unbreak" and "error" not in reply:
             self.teller.breaks.pop(value["id"], None)
-        if reply.get("at") is not None:
-            self.at, self.kept = reply["at"], reply.get("kept", self.kept)
 
     def command(self, asked):
         """Executes a command that a page asks for, if the page has seen the newest state. Of a run in
@@ -100,10 +114,10 @@ class Live:
         if not isinstance(value, dict) or value.get("do") not in COMMANDS:
             raise Refused(400, "that is no command")
         self.check_revision(asked)
-        reply, count = self.dropped.ask(value, self.at, self.kept)
+        before = self.at, self.kept
+        reply, count = self.journal.ask(value)
         reply.update({"ran": reply["ran"] + asked.get("ran", 0)} if "ran" in reply else {})
         words = self.words(value, reply) + self.round_words(value, reply)
-        before = self.at, self.kept
         self.note(value, reply)
         has_moved = (self.at, self.kept) != before
         if has_moved and value["do"] in (*STEPS, "run"):
@@ -115,6 +129,7 @@ class Live:
 
     def words(self, value, reply):
         """The reply to a command in words."""
+        self.teller.at, self.teller.kept = self.at, self.kept
         if "line" in reply and "error" in reply:
             said = faults.faulty(reply, faults.line_faults(json.dumps(value).encode(), reply, self.teller))
         else:
@@ -131,12 +146,17 @@ class Live:
     def bring_back(self, asked):
         """Executes the run before the last discard again."""
         self.check_revision(asked)
-        reply = self.dropped.bring_back()
-        if reply is None:
-            raise Refused(409, "there are no discarded steps")
-        self.at, self.kept, self.revision = reply["at"], reply["kept"], self.revision + 1
+        try:
+            if not self.journal.bring_back():
+                raise Refused(409, "there are no discarded steps")
+            words = f"brought back: {counted(self.kept, 'step')} are kept"
+        except Stopped as fault:
+            words = str(fault)
+        finally:
+            self.progress = ""
+        self.revision += 1
         self.pictures.forget_from(0)
-        return self.told(reply, [f"brought back: {counted(self.kept, 'step')} are kept"], asked)
+        return self.told({}, [words], asked)
 
     def check_revision(self, asked):
         if asked.get("revision") != self.revision:
@@ -152,7 +172,7 @@ class Live:
     def picture(self, sight):
         """The picture at the cursor, with what is in sight of it."""
         picture = self.pictures.of(self.at, self.kept, self.revision, sight)
-        picture.update({"dropped": len(self.dropped.paths), "reach": self.reach()})
+        picture.update({"dropped": len(self.journal.dropped), "reach": self.reach()})
         return {"revision": self.revision, "picture": picture}
 
     def reach(self):
@@ -162,14 +182,52 @@ class Live:
 
     def answer(self, path, asked):
         """The answer to a question of a page, by its path."""
-        with self.lock:
-            if self.ended:
-                raise Refused(503, self.ended)
-            try:
+        if self.ended:
+            raise Refused(503, self.ended)
+        self.is_cancelled = path == "cancel"
+        if self.is_cancelled:
+            self.second.stop()
+            return {}
+        try:
+            if path in ("finish", "turns"):
+                return self.asked_second(path, asked)
+            with self.lock:
                 return self.answered(path, asked)
-            except Ended as fault:
-                self.ended = str(fault)
-                raise Refused(503, self.ended) from fault
+        except Ended as fault:
+            raise Refused(503, str(fault)) from fault
+
+    def asked_second(self, path, asked):
+        """The answer to a question that may take long. Others are answered meanwhile."""
+        try:
+            return self.turns(asked["when"]) if path == "turns" else self.finish(asked)
+        except Stopped as fault:
+            return {"stopped": str(fault)}
+        finally:
+            self.progress = ""
+
+    def finish(self, asked):
+        """By which steps a point can still finish."""
+        with self.lock:
+            here, revision = self.second.here(), self.revision
+        told = finishing.finish(lambda line: self.second.ask(line, *here), self.teller.graph, asked)
+        return {**told, "revision": revision}
+
+    def turns(self, when):
+        """Looks for turns among the positions that are not known, until another step is kept."""
+        turned = self.pictures.turned
+        with self.lock:
+            (entries, _), kept, changes = self.second.here(), self.kept, self.journal.changes
+        while changes == self.journal.changes:
+            with self.lock:
+                line = turned.next_line(when, kept, PIECE)
+            if not line:
+                break
+            reply = self.second.ask(line, entries, line["lo"])
+            with self.lock:
+                if changes == self.journal.changes:
+                    turned.add(line, reply)
+            self.progress = f"looked at {line['hi']} of {kept} positions"
+        return {}
 
     def answered(self, path, asked):
         if path == "picture":
@@ -183,11 +241,9 @@ class Live:
             return self.bring_back(asked)
         if path == "why":
             return self.pictures.why(asked)
-        if path == "finish":
-            return finishing.finish(self.session, self.teller.graph, asked)
         if path == "save":
-            self.saved_at = self.revision
-            return {"script": script_of(self.session), "words": self.session.words}
+            self.journal.saved()
+            return {"script": self.journal.script(), "words": self.session.words}
         raise Refused(404, "there is nothing here")
 
     def page(self):
@@ -293,7 +349,7 @@ class Handler(BaseHTTPRequestHandler):
         with server.watching:
             told = None
             while not server.is_ending:
-                now = [server.live.revision, server.live.ended]
+                now = [server.live.revision, server.live.ended, server.live.progress]
                 self.wfile.write(b": here\n\n" if now == told else f"data: {json.dumps(now)}\n\n".encode())
                 self.wfile.flush()
                 told = now

@@ -1,15 +1,15 @@
 """Where conditions turn among the kept steps. The program walks over the steps to answer that, so it is
-asked once for all of them, and then only for new ones and for those in sight."""
+asked once for all of them, and then only for new ones and for those in sight. What is known belongs to a
+picture; the rest, which may take long, is asked of a second program, in pieces."""
 import json
-import time
 
+from rewind_tools.second import FEW
 from rewind_tools.telling.commands import FIRM, condition
 
 # How many turns are looked for and how many are listed, and of how many conditions they are kept.
 MOST, LISTED, CONDITIONS = 1000, 20, 8
-# How many positions are asked about first, and for how many seconds before the page is answered. Each piece
-# is as long as all before it: the program walks to the begin of each, perhaps from position 0.
-PIECE, SECONDS = 2000, 0.4
+# How many positions the second program is asked about at once.
+PIECE = 10_000
 
 
 class Turned:
@@ -25,40 +25,48 @@ class Turned:
             it["to"] = min(it["to"], position)
             it["turns"] = [at for at in it["turns"] if at <= position]
 
-    def ask(self, when, lo, hi):
-        return self.session.ask({"do": "turns", "when": when, "lo": lo, "hi": hi})
-
-    def look_on(self, it, when, kept):
-        """Looks at some more positions; returns an error if the program has one."""
-        begun = time.monotonic()
-        while "at_lo" not in it or (it["to"] < kept and len(it["turns"]) < MOST):
-            if time.monotonic() - begun > SECONDS:
-                break
-            to = min(kept, it["to"] + max(PIECE, it["to"]))
-            reply = self.ask(when, it["to"], to)
-            if "error" in reply:
-                return reply["error"]
-            it.setdefault("at_lo", reply["at_lo"])
-            it["turns"] += reply["turns"]
-            it["to"] = reply["turns"][-1] if reply.get("more") else to
-        return None
-
-    def of(self, when, kept, first, last):
-        """The first turns of a condition among the kept steps, and those among the steps in sight, which
-        lead to the positions `first` to `last`."""
+    def about(self, when):
+        """What is known of a condition, which then is the last that was asked about."""
         key = json.dumps(when, sort_keys=True)
         it = self.known.pop(key, {"to": 0, "turns": []})
-        error = self.look_on(it, when, kept)
-        if error:
-            return {"error": error}
         self.known = {**dict([*self.known.items()][1 - CONDITIONS :]), key: it}
-        near = self.ask(when, max(0, first - 1), last)
+        return it
+
+    def next_line(self, when, kept, most):
+        """The question about the next positions that are not known; None if there is none."""
+        it = self.about(when)
+        if "error" in it or "at_lo" in it and (it["to"] >= kept or len(it["turns"]) >= MOST):
+            return None
+        return {"do": "turns", "when": when, "lo": it["to"], "hi": min(kept, it["to"] + most)}
+
+    def add(self, line, reply):
+        """Adds the answer to that question."""
+        it = self.about(line["when"])
+        if "error" in reply:
+            it["error"] = reply["error"]
+        if "error" in reply or line["lo"] != it["to"]:
+            return
+        it.setdefault("at_lo", reply["at_lo"])
+        it["turns"] += reply["turns"]
+        it["to"] = reply["turns"][-1] if reply.get("more") else line["hi"]
+
+    def of(self, when, at, kept, sight):
+        """The first turns of a condition among the kept steps, and those among the steps in sight, which
+        lead to the first to the last position of `sight`. A few positions near the cursor are asked about at
+        once."""
+        line = self.next_line(when, kept, FEW)
+        if line and line["hi"] == kept and abs(at - line["lo"]) <= FEW:
+            self.add(line, self.session.ask(line))
+        it, lo = self.about(when), max(0, sight[0] - 1)
+        if "error" in it:
+            return {"error": it["error"]}
+        near = self.session.ask({"do": "turns", "when": when, "lo": lo, "hi": sight[1]})
         return {
             "when": condition(when).replace(FIRM, " "),
-            "at_lo": it["at_lo"],
+            "at_lo": it.get("at_lo"),
             "turns": it["turns"][:LISTED],
             "count": len(it["turns"]),
             "more": len(it["turns"]) >= MOST,
             "to": it["to"],
-            "near": {"lo": max(0, first - 1), "at_lo": near["at_lo"], "turns": near["turns"]},
+            "near": {"lo": lo, "at_lo": near["at_lo"], "turns": near["turns"]},
         }

@@ -14,10 +14,11 @@ async function findFinish(ask) {
   await inTurn(async () => {
     progress("looking for the fewest steps");
     const told = await asked("finish", ask);
-    finishing = { ...told, ask, revision };
+    finishing = told.stopped ? null : { ...told, ask };
+    if (told.stopped) say(told.stopped, told.stopped !== CANCELLED);
   });
   showWhy();
-  by("finish").scrollIntoView({ block: "nearest" });
+  if (by("finish")) by("finish").scrollIntoView({ block: "nearest" });
 }
 
 // Whether the last answer is about the state and the point that are shown.

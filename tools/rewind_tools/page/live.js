@@ -6,10 +6,13 @@ const sight = { points: 0, candidates: 0, when: null };
 const onlyChosen = new Set();
 // Whether the last command was refused, or not even answered.
 let isRefused = false;
+// Whether the turns of the condition are looked for among all kept steps.
+let wantsTurns = false;
 // Whether the picture is not that of the newest state that is known, and whether the last one took long.
 let isStale = false, isSlow = false;
 // The number of the session's newest state, as the server told it beside its answers.
 let newest = 0;
+const CANCELLED = "cancelled";
 let revision = 0, busy = Promise.resolve(), waiting = 0, busyTimer = null, isCancelled = false;
 
 async function asked(path, value) {
@@ -85,16 +88,17 @@ function take(told) {
   show();
 }
 
-// The turns of a condition come in pieces, since the program walks over all kept steps.
+// What is not known of the turns is looked for among all kept steps, which may take long.
 async function followTurns() {
-  while (!isCancelled && picture.turns && picture.turns.to < picture.kept && !picture.turns.more && !picture.turns.error) {
-    progress(`looked at ${picture.turns.to} of ${picture.kept} positions`);
-    const { candidates } = picture, known = revision;
-    take(await asked("picture", { sight: inSight() }));
-    isStale = isStale || revision !== known;
-    picture.candidates = candidates;
-    showCandidates();
-  }
+  const { turns, kept, candidates } = picture, known = revision;
+  if (isCancelled || !wantsTurns || !turns || turns.error || turns.more || turns.to >= kept) return;
+  const { stopped } = await asked("turns", { when: sight.when });
+  if (stopped) wantsTurns = false;
+  take(await asked("picture", { sight: inSight() }));
+  isStale = isStale || revision !== known;
+  picture.candidates = candidates;
+  showCandidates();
+  if (stopped) say(stopped, stopped !== CANCELLED);
 }
 
 // ---- commands. A line is an object, or the text of one, whose numbers a browser would round.
@@ -282,12 +286,13 @@ function atomOf() {
 function buildConditions() {
   by("when").append(
     made("span", "of the processor and point that are asked about: "), whenControl,
-    button("show where it holds", () => { const when = atomOf(); if (when) { sight.when = when; inTurn(refresh); } }),
+    button("show where it holds", () => { const when = atomOf(); if (when) { sight.when = when; wantsTurns = true; inTurn(refresh); } }),
     button("break when it holds", () => { const when = atomOf(); if (when) execute({ do: "break", when }); }),
   );
 }
 
 function turnWords({ at_lo: atLo, turns, count, more, to }) {
+  if (atLo === null) return "no position was looked at";
   const start = atLo ? "holds at the start" : "does not hold at the start";
   const rest = to < picture.kept && !more ? `; positions up to ${to} were looked at` : "";
   if (!count) return `${start}, and that stays so${rest}`;
@@ -395,18 +400,19 @@ const source = {
   keys: { ArrowLeft: "back", ArrowRight: "redo", Home: "first", End: "last", n: "next", r: "run", s: "save" },
 };
 
-const GONE = "the server is gone: this page shows what it answered last; start tools/live again";
+const GONE = "the server is gone: this page shows what it answered last; start tools/live again, which names a file if steps were not saved";
 function watchServer() {
   const beats = new EventSource("beats");
   beats.addEventListener("message", (event) => {
-    const [now, ended] = JSON.parse(event.data);
-    if (ended) return say(`${ended}; start tools/live again`, true);
+    const [now, ended, working] = JSON.parse(event.data);
+    by("gone").hidden = !ended;
+    if (ended) by("gone").textContent = ended.replace(/^the program/, "the program is gone: it");
+    if (working && waiting && !isCancelled) progress(working);
     newest = now;
     if (picture && now > revision && !waiting) inTurn(refresh);
     return undefined;
   });
   beats.addEventListener("error", () => { by("gone").hidden = false; by("gone").textContent = GONE; });
-  beats.addEventListener("open", () => { by("gone").hidden = true; });
 }
 
 by("goto").addEventListener("submit", (event) => { event.preventDefault(); goTo(); });
@@ -414,8 +420,9 @@ by("slider").addEventListener("input", () => { by("cursor").textContent = `posit
 by("slider").addEventListener("change", () => jump(Number(by("slider").value)));
 by("cancel").addEventListener("click", () => {
   isCancelled = true;
-  say("cancelled");
-  progress("cancelled; the question under way is still answered");
+  say(CANCELLED);
+  progress(CANCELLED);
+  asked("cancel", {}).catch((fault) => say(fault.message, true));
 });
 by("choice").addEventListener("change", showChoice);
 showChoice();

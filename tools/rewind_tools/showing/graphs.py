@@ -5,7 +5,8 @@ import subprocess
 from html import escape
 
 from rewind_tools.layout import Drawn, Edge, layout, tidy
-from rewind_tools.showing.loops import loop_svg, loops_of
+from rewind_tools.ports import operators_of
+from rewind_tools.showing.loops import loop_svg, loops_of, operator_svg
 from rewind_tools.telling.commands import op_words
 from rewind_tools.wrapping import wrapped
 
@@ -117,6 +118,7 @@ def graph_svg(graph, drawn):
     boxes, labels = sizes_of(graph)
     drawn = wrapped(drawn, boxes, labels, WIDEST if drawn.width > SLACK * WIDEST else drawn.width)
     parts = [loop_svg(graph, drawn, (boxes, labels), *it) for it in loops_of(graph)]
+    parts += [operator_svg(graph, drawn, (boxes, labels), it) for it in operators_of(graph).values()]
     parts += [
         edge_svg(it, drawn.curves[it["name"]], len(graph["vertices"]) + at)
         for at, it in enumerate(graph["edges"])

@@ -1,6 +1,7 @@
-"""The loops of a graph, and the frame round each: a rectangle in each row of the drawing in which the loop
-has vertices. Where another vertex stands in such a rectangle, the frame follows the loop's vertices and
-edges."""
+"""The loops of a graph and its operators by ports, and the frame round each: a rectangle in each row of the
+drawing in which it has vertices. Where another vertex stands in such a rectangle, the frame follows the
+vertices and the edges that are in it."""
+from html import escape
 
 # How far the frame of an outermost loop goes beyond what is in it.
 RIM = 14
@@ -56,13 +57,32 @@ def frames(drawn, inner, others, rim):
 
 def loop_svg(graph, drawn, sizes, depth, inside):
     """The frame of a loop. `sizes` has those of vertices and of labels."""
+    found = frames_of(graph, drawn, sizes, inside, RIM / depth)
+    return f'<g class="{"deep" if depth % 2 == 0 else "loop"}">{grounds(found)}</g>'
+
+
+def operator_svg(graph, drawn, sizes, operator):
+    """The frame of an operator by ports, with its name."""
+    inside = [f"{operator.name}.{port}" for port in operator.ports()]
+    found = frames_of(graph, drawn, sizes, inside, RIM / 2)
+    left, top = found[0][:2]
+    name = f'<text class="name" x="{left + 4:g}" y="{top - 3:g}">{escape(operator.name)}</text>'
+    return f'<g class="operator">{grounds(found)}{name}</g>'
+
+
+def grounds(found):
+    """The rims of all rectangles, and the grounds of all over them: so the rim is that of all together."""
+    ground = "".join(map(rect, found))
+    return f'<g class="rim">{ground}</g>{ground}'
+
+
+def frames_of(graph, drawn, sizes, inside, rim):
+    """The boxes around some vertices and the edges between them."""
     boxes, labels = sizes
-    rim, edges = RIM / depth, [it for it in graph["edges"] if it["from"] in inside and it["to"] in inside]
+    edges = [it for it in graph["edges"] if it["from"] in inside and it["to"] in inside]
     inner = [box_of(drawn.nodes[it], boxes[it]) for it in inside]
     inner += [box_of(drawn.labels[it["name"]], labels[it["name"]]) for it in edges]
     curves = [it for edge in edges for it in drawn.curves[edge["name"]]]
     inner += [around([(x, y, x, y) for x, y in it], 0) for it in curves]
     others = [box_of(drawn.nodes[it], boxes[it]) for it in boxes if it not in inside]
-    ground = "".join(map(rect, frames(drawn, inner, others, rim)))
-    # the rims of all rectangles, and the grounds of all over them: so the rim is that of all together
-    return f'<g class="{"deep" if depth % 2 == 0 else "loop"}"><g class="rim">{ground}</g>{ground}</g>'
+    return frames(drawn, inner, others, rim)

@@ -88,7 +88,7 @@ class Copy:
 
     @property
     def state(self):
-        return self.pictures.at_cursor(self.at, self.revision)[0]["state"]
+        return self.pictures.at_cursor(self.at, self.revision)[0]
 
     def whys(self):
         """Which points the page has answers about here, and the answers by processor and point."""
@@ -111,8 +111,7 @@ class Copy:
     def asked(self, wanted):
         """The answers about points by processor."""
         places = list(dict.fromkeys((q, place) for q, place, _ in wanted))
-        lines = [{"do": "frontier", "q": q, "at": place} for q, place in places]
-        arriving = dict(zip(places, self.session.ask_all(lines))) if lines else {}
+        arriving = dict(zip(places, self.pictures.frontiers(self.state, places)))
         questions = [{"q": q, "at": it, "time": list(time), "before": False} for q, it, time in wanted]
         answers = self.pictures.whys(questions, [arriving[it[:2]] for it in wanted]) if wanted else []
         return {f"{q} {place} {time_in(time)}": it for (q, place, time), it in zip(wanted, answers)}
@@ -121,7 +120,8 @@ class Copy:
 class Recorder:
     """The positions of a page, one after the other."""
 
-    def __init__(self, told, script, words):
+    def __init__(self, told, script, words, report):
+        self.count, self.done, self.report = len(told.entries), 0, report
         self.teller = faults.teller_of(told, script)
         has_graph = any("locations" in it.reply for it in told.entries)
         self.copy = Copy(told, words, self.teller) if has_graph else None
@@ -136,6 +136,7 @@ class Recorder:
         self.begun = self.begun or "locations" in entry.reply
         self.place(entry, {**shown_line(entry), "asked": asked, "answer": answer + said}, None)
         self.ends += [len(self.ats) - 1] * (len(self.ats) - first)
+        self.done += 1
         self.before = self.of_copy(lambda: self.copy.state)
 
     def of_copy(self, ask):
@@ -183,6 +184,7 @@ class Recorder:
         line = {"line": entry.line and entry.line.number, "client": entry.client}
         self.packer.add({**line, **shown, "picture": told, "which": which, "why": whys})
         self.ats.append(told["at"] if told else None)
+        self.report(f"{self.done} of {self.count} lines, {len(self.ats)} positions so far")
 
 
 def shown_line(entry):
@@ -197,11 +199,10 @@ def shown_line(entry):
 
 def recorded(told, script, words, report):
     """The data of a page. How many lines and positions are done is reported."""
-    recorder = Recorder(told, script, words)
+    recorder = Recorder(told, script, words, report)
     try:
-        for done, entry in enumerate(told.entries, 1):
+        for entry in told.entries:
             recorder.add(entry)
-            report(done, len(told.entries), len(recorder.ats))
     finally:
         if recorder.copy:
             recorder.copy.session.close()
@@ -214,7 +215,7 @@ def embedded(value):
     return text.replace("<", "\\u003c").replace(">", "\\u003e").replace("&", "\\u0026")
 
 
-def page_of(name, script, words, uses_dot=True, report=lambda *counts: None):
+def page_of(name, script, words, uses_dot=True, report=lambda text: None):
     """The page of a script's run, and the run."""
     told = run_script(script, words, ())
     start = next((it.reply for it in told.entries if "locations" in it.reply), {})

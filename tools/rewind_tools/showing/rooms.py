@@ -15,7 +15,7 @@ CRATES = [
     "nd_json rewind_forms",
     "nd_timeline",
     "nd_timeline",
-    "rewind_forms",
+    "rewind_replies",
     "rewind_lines",
 ]
 CRATES = [it.split() for it in CRATES]

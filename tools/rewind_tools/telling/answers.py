@@ -15,7 +15,7 @@ class Teller:
 
     def __init__(self, graph, processors, has_clients, version=1):
         self.graph, self.processors, self.has_clients, self.version = graph, processors, has_clients, version
-        self.kept, self.breaks = 0, {}
+        self.at, self.kept, self.breaks = 0, 0, {}
 
     def told(self, value, reply, before):
         """The answer to a command or query, in a list of sentences; 'before' is the state at which it was
@@ -27,7 +27,7 @@ class Teller:
 
     def keep(self, value, reply):
         """Keeps what a reply tells of the timeline and the breakpoints."""
-        self.kept = reply.get("kept", self.kept)
+        self.at, self.kept = reply.get("at", self.at), reply.get("kept", self.kept)
         if value["do"] == "run" and reply.get("error") == "Memory" and "at" in reply:
             self.kept = None
         if value["do"] == "break" and "id" in reply:
@@ -54,11 +54,15 @@ class Teller:
     def cleared(self, value, reply):
         return [f"done: it was {self.breaks.pop(value['id'], 'set by a line that is not told')}"]
 
-    def refused(self, value, reply, before):
-        """A refusal: its name, and what stands in the way."""
+    def hindrance(self, value, reply, before):
+        """The number and the name of a refusal, and what stands in the way; an empty text if that is all."""
         why = REFUSALS.get(reply["error"])
-        said = why(self, value, reply, before) if why else ""
-        return [f"refused, {reply['code']} {reply['error']}" + (f": {said}" if said else "")]
+        return f"{reply['code']} {reply['error']}", why(self, value, reply, before) if why else ""
+
+    def refused(self, value, reply, before):
+        """A refusal: what stands in the way, and its number and name."""
+        name, said = self.hindrance(value, reply, before)
+        return [f"refused: {said} ({name})" if said else f"refused, {name}"]
 
     def kept_positions(self):
         if self.kept is None:
@@ -230,7 +234,8 @@ def queue_empty(teller, value, reply, before):
 
 def timeline_full(teller, value, reply, before):
     if value["do"] == "run":
-        return f"the limit, {value['limit']}, is above 1000000 less the cursor"
+        left = f"the {1000000 - teller.at} that are left before position 1000000"
+        return f"the limit, {value['limit']} steps, is above {left}"
     return "the cursor is at 1000000, where no step is executed; going back makes room"
 
 
@@ -279,6 +284,8 @@ REFUSALS = {
     "BadRange": lambda teller, value, reply, before: (
         f"the limit, {value['limit']}, is not from 1 to 1000000"
         if value["do"] == "reach"
+        else f"the number of steps, {value['rest']}, is not from 1 to 1000000"
+        if value["do"] == "why"
         else f"lo, {value['lo']}, is above hi, {value['hi']}"
     ),
     "NoWorkers": sentence('"workers" is 0; at least 1 thread is needed'),
@@ -350,6 +357,20 @@ def reached(teller, value, reply):
     return [first, *told, *([f"... ({len(steps)} in all)"] if len(steps) > MOST_STEPS else [])]
 
 
+def why(teller, value, reply):
+    """The reasons; at rest also why the run to rest stopped."""
+    words = why_words(value, reply, teller.graph.holds)
+    if "stop" not in reply:
+        return words
+    steps = counted(reply["ran"], "step")
+    stops = {
+        "rest": f"whatever the order of the {steps} that are left, this stays",
+        "stuck": f"after {steps} a limit refuses what is left",
+        "limit": f"after {steps} it is not at rest",
+    }
+    return [stops[reply["stop"]], *words]
+
+
 def turns(teller, value, reply):
     """Whether the condition holds at first, and the positions at which that changes."""
     first = f"at position {value['lo']} it {'holds' if reply['at_lo'] else 'does not hold'}"
@@ -403,7 +424,7 @@ ANSWERS = {
         "at none" if reply["found"] is None else f"at position {reply['found']}"
     ],
     "export": exported,
-    "why": lambda teller, value, reply: why_words(value, reply, teller.graph.holds),
+    "why": why,
     "changes": changed,
     "step": lambda teller, value, reply: [command_words(reply["step"])],
     "candidates": candidates,

@@ -111,7 +111,7 @@ TOLD = {
         (4, "processor 0 broadcasts all that is unsent"), (4, "changes on their way: 1 from 0 to 0"),
         (5, "processor 0 receives the first change on its way from processor 0"),
         (6, "processor 0 runs the notification of s (0)"),
-        (6, "refused, 10 NotYet: processor 0's view has as (0) strictly before s (0)"),
+        (6, "refused: processor 0's view has as (0) strictly before s (0)"),
         (8, "processor 0 broadcasts what is unsent at as (0)"), (10, "the cursor is at 8 of 8 kept steps"),
         (11, "undo the last step"),
         (11, "the cursor is at 7 of 8 kept steps"), (12, "execute the kept step after the cursor again"),
@@ -150,7 +150,7 @@ TOLD = {
         (5, "run, at most 9 steps"), (6, "remove breakpoint 1"),
         (6, "records, requests and tokens at az (0)"),
         (5, "ran 3 steps, then stopped: breakpoint 0 holds: processor 0 has passed z (0)"),
-        (7, "refused, 25 NoBreak: there is no breakpoint 1; set: 0"), (8, "nothing is enabled"),
+        (7, "refused: there is no breakpoint 1; set: 0"), (8, "nothing is enabled"),
         (9, "ran 0 steps, then stopped: that is the limit"),
     ]),
     "breakpoints that never trigger": (["--processors", "2"], [
@@ -168,7 +168,7 @@ TOLD = {
         (3, "it is breakpoint 1 warning: this breakpoint never triggers: there is no processor 4 or 5; "
             "there are the processors 0 to 1"),
         (6, "at none warning: this holds at no position: there is no processor 7"),
-        (9, "nothing is enabled"), (10, "refused, 51 NoWorkers"),
+        (9, "nothing is enabled"), (10, "51 NoWorkers"),
     ], [(4, "warning"), (5, "warning"), (9, "warning"), (10, "warning")]),
     "a client's breakpoint": (["--clients", "2"],
         [*CLIENTS, json.dumps({"client": 1, "do": "break", "when": passed("z", q=1)})], 0, [
@@ -188,20 +188,20 @@ TOLD = {
         do("search", when={"queue": {"at_least": 1, "from": 0, "to": 0}}, lo=0, hi=5, workers=1),
         do("view", q=9),
     ], 0, [
-        (2, "refused, 1 NoProcessor: there is no processor 3; there are the processors 0 to 2"),
-        (3, "refused, 4 NotInput: z is a vertex (sink); inputs: a"),
-        (5, "refused, 5 InputClosed: processor 0 has given up its token of a"),
-        (6, "refused, 8 NoRecord: processor 0 has no record of value 5 at az (0)"),
+        (2, "refused: there is no processor 3; there are the processors 0 to 2"),
+        (3, "refused: z is a vertex (sink); inputs: a"),
+        (5, "refused: processor 0 has given up its token of a"),
+        (6, "refused: processor 0 has no record of value 5 at az (0)"),
         (6, "; processor 2 has one"),
         (7, "on az it has a record of value 5 at az (0)"),
-        (8, "refused, 9 NoRequest: z on processor 0 has not asked for a notification at (0)"),
-        (9, "refused, 15 NothingToSend"), (10, "refused, 16 NotAdmissible: az (0)"),
-        (11, "refused, 17 QueueEmpty: nothing is on its way from processor 1 to 0, nor from others"),
-        (12, "refused, 21 AtEnd"),
-        (13, "refused, 22 NoSuchPoint: position 7 is past the last kept step; kept are the positions "
+        (8, "refused: z on processor 0 has not asked for a notification at (0)"),
+        (9, "15 NothingToSend"), (10, "refused: az (0)"),
+        (11, "refused: nothing is on its way from processor 1 to 0, nor from others"),
+        (12, "21 AtEnd"),
+        (13, "refused: position 7 is past the last kept step; kept are the positions "
             "0 to 1"),
-        (16, "refused, 20 AtStart"), (17, "refused, 50 BadRange"), (18, "refused, 51 NoWorkers"),
-        (19, "refused, 22 NoSuchPoint: position 5 is past the last kept step; kept are the positions "
+        (16, "20 AtStart"), (17, "50 BadRange"), (18, "51 NoWorkers"),
+        (19, "refused: position 5 is past the last kept step; kept are the positions "
             "0 to 1"),
         (20, "there is no processor 9"),
     ]),
@@ -220,12 +220,12 @@ TOLD = {
     # what no step can move
     "idle on a value": ([], [
         ADD, do("feed", p=0, vertex="a", values=[TOP, 5], next="close"), do("run", limit=99),
-    ], 0, [(3, "nothing is enabled"), (3, f"left: processor 0, record of value {TOP} at am (0): 12 "
-        f"ValueRange: m (add 1)"), (3, "counted: z 6")]),
+    ], 0, [(3, "nothing is enabled"), (3, f"left: processor 0, record of value {TOP} at am (0): m "
+        "(add 1)"), (3, "(12 ValueRange)"), (3, "counted: z 6")]),
     "idle on a notice": ([], [
         SUM, do("feed", p=0, vertex="a", values=[2], next="stay"), do("run", limit=99),
-    ], 0, [(3, "left: processor 0, notification of s (0): 10 NotYet: processor 0's view has a (0) strictly "
-        "before s (0)")]),
+    ], 0, [(3, "left: processor 0, notification of s (0): processor 0's view has a (0) strictly before s "
+        "(0) (10 NotYet)")]),
     "idle with nothing": ([], [LINE, FEED, do("run", limit=99)], 0,
         [(3, "left: no record, request, unsent entry or change")]),
     # faulty lines
@@ -285,7 +285,7 @@ TOLD = {
         [LINE, *map(do, ("help", "quit", "Continue", "next", "step", "undo")), '"help"', '"run"'], 0, [
         (2, '"help" is no command or query; the commands of version 1 are feed, take, notice, broadcast, '
             'receive, back, redo, jump, run,'),
-        (2, "the queries are state, count, before, view, frontier, passed, search version 7 adds send, "
+        (2, "the queries are state, count, before, view, frontier, passed, search version 8 adds send, "
             "release, export, why, changes, step, candidates, effect, turns, reach"),
         (3, '"quit" is no command or query; the end of the input ends the run'),
         (4, '{"do":"run","limit":1000} executes up to 1,000'),
@@ -298,7 +298,7 @@ TOLD = {
     ]),
     "the same of version 3": ([],
         [V3, LINE, do("help"), do("step"), do("step", at=7), "step 4", "why 1 z [2]", "c"], 0, [
-        (3, "frontier, passed, search, export, why, changes, step version 7 adds send, release, candidates, "
+        (3, "frontier, passed, search, export, why, changes, step version 8 adds send, release, candidates, "
             "effect, turns, reach; its first line is"),
         (3, "docs/SCRIPT.md shows the form of each"), (4, 'right is {"do":"step","to":0}'),
         (4, '{"do":"run","limit":1} executes the next step'), (5, 'right is {"do":"step","to":7}'),
@@ -322,7 +322,7 @@ TOLD = {
     "clients' words": (["--clients", "2"], [*CLIENTS, "back"], 2,
         [(4, 'the line is not JSON; right is {"client":0,"do":"back"}')]),
     "clients' help": (["--clients", "2"], [*CLIENTS, '{"client":1,"do":"help"}'], 2, [
-        (4, "run, break, unbreak several clients have no queries version 7 adds send, release; its first "
+        (4, "run, break, unbreak several clients have no queries version 8 adds send, release; its first "
             "line is"),
         (4, 'as {"client":0,"do":"back"}'),
     ]),
@@ -420,16 +420,16 @@ TOLD = {
             "not yet broadcast in truth z (0) is not finished"),
         (9, "it still counts 3 at a (0); held there: the tokens of processors 1 and 2; not heard: an update "
             "of -1 by processor 0, first in its queue"),
-        (10, "refused, 1 NoProcessor: there is no processor 3; there are the processors 0 to 2"),
+        (10, "refused: there is no processor 3; there are the processors 0 to 2"),
         (11, "when did processor 1's view of az (0) change, from position 0 to 5? it became -1 at "
             "position 4"),
         (12, "at none"),
-        (13, "refused, 50 BadRange: lo, 2, is above hi, 1"),
-        (14, "22 NoSuchPoint: position 6 is past the last kept step"),
+        (13, "refused: lo, 2, is above hi, 1"),
+        (14, "position 6 is past the last kept step"),
         (15, "which step leads to position 4? processor 1 receives the first change on its way from "
             "processor 2"),
-        (16, "22 NoSuchPoint: no step leads to position 0"),
-        (17, "22 NoSuchPoint: position 6 is past the last kept step"),
+        (16, "no step leads to position 0"),
+        (17, "position 6 is past the last kept step"),
         (18, '"y" is no name of the graph'), (19, 'right is {"do":"why","q":1,"at":"z","time":[0]}'),
     ]),
     "reasons": ([], [
@@ -458,7 +458,7 @@ TOLD = {
         (5, "before the graph alone"),
     ]),
     "another version": ([], ['{"version":9}', LINE], 2,
-        [(1, 'faulty, 40 Shape: a version line is {"version":N} alone, N from 2 to 7')]),
+        [(1, 'faulty, 40 Shape: a version line is {"version":N} alone, N from 2 to 8')]),
     "a version twice": ([], [V2, V2, LINE], 2,
         [(1, "of version 2"), (2, "faulty, 40 Shape: a version line is")]),
     "a version alone": ([], [V3], 0, [
@@ -493,7 +493,7 @@ TOLD = {
         (3, "which steps may be executed now, and what stands in the way of the others? no step is left but "
             "a feed"),
         (6, "2 steps of 3 may be executed enabled: processor 0 takes a record of value 3 from as (0)"),
-        (6, "processor 0 runs the notification of s (0): refused, 10 NotYet: processor 0's view has a (0) "
+        (6, "processor 0 runs the notification of s (0): refused: processor 0's view has a (0) "
             "strictly before s (0)"),
         (6, "enabled: processor 0 broadcasts all that is unsent"),
         (7, "what did the step that leads to position 2 change? processor 0 takes a record of value 2 from "
@@ -501,7 +501,7 @@ TOLD = {
         (7, "records of value 2 on processor 0 at as (0): from 1 to 0 processor 0 asks for a notification "
             "at s (0) s on processor 0 has the sum 2 at (0)"),
         (7, "unsent on processor 0 at s (0): from 0 to 1 unsent on processor 0 at as (0): from 2 to 1"),
-        (8, "22 NoSuchPoint: no step leads to position 0"),
+        (8, "no step leads to position 0"),
         (9, "processor 0 gives up its token of a, which was at epoch 0"),
         (10, "which times can still arrive at z, as far as processor 0 knows? (0), and all that are later"),
         (11, "why does processor 0 not consider all that is strictly before s (0) finished? processor 0 "
@@ -583,22 +583,22 @@ TOLD = {
     ], 0, [
         (2, "vertices: a (input), h (hold), z (sink)"),
         (5, "processor 0 holds a capability at h (0)"),
-        (6, "refused, 10 NotYet: processor 0's view has a (0) strictly before h (0); h is a hold, so it is "
+        (6, "refused: processor 0's view has a (0) strictly before h (0); h is a hold, so it is "
             "never notified"),
-        (7, "left: processor 0, capability at h (0): 53 NotNotified: h is a hold: it is never notified, and "
-            "holds its capability until a release"),
-        (8, "0 steps of 1 may be executed processor 0 runs the notification of h (0): refused, 53 "
-            "NotNotified: h is a hold"),
+        (7, "left: processor 0, capability at h (0): h is a hold: it is never notified, and holds its "
+            "capability until a release (53 NotNotified)"),
+        (8, "0 steps of 1 may be executed processor 0 runs the notification of h (0): refused: "
+            "h is a hold: it is never notified, and holds its capability until a release (53 NotNotified)"),
         (9, "it still counts 1 at h (0); held there: the capability of processor 0 in truth z (0) is not "
             "finished"),
-        (10, "refused, 53 NotNotified: h is a hold: it is never notified"),
+        (10, "refused: h is a hold: it is never notified"),
         (11, "processor 0 moves the capability that it holds at h (0) to (0)"),
-        (11, "refused, 54 NotLater: (0) is not strictly after (0)"),
+        (11, "refused: (0) is not strictly after (0)"),
         (12, "the cursor is at 6 of 6 kept steps"), (13, "processor 0 holds a capability at h (3)"),
         (13, "processor 0 no longer holds a capability at h (0)"),
         (14, "processor 0 releases the capability that it holds at h (0)"),
-        (14, "refused, 9 NoRequest: processor 0 holds no capability at h (0); at h it holds: h (3)"),
-        (15, "refused, 9 NoRequest: a is a vertex (input); vertices that hold capabilities: h"),
+        (14, "refused: processor 0 holds no capability at h (0); at h it holds: h (3)"),
+        (15, "refused: a is a vertex (input); vertices that hold capabilities: h"),
         (16, "there is no processor 1"), (17, "the cursor is at 7 of 7 kept steps"),
         (18, "processor 0 no longer holds a capability at h (3)"), (19, "at h it holds: nothing"),
     ]),
@@ -608,8 +608,8 @@ TOLD = {
         do("feed", p=1, vertex="a", values=[], next="close"),
         do("run", limit=99), do("why", q=1, at="h", time=[0]), do("release", p=1, vertex="h", time=[0]),
     ], 0, [
-        (6, "left: processor 0, capability at h (0): 53 NotNotified"),
-        (6, "left: processor 2, capability at h (0): 53 NotNotified"),
+        (6, "left: processor 0, capability at h (0): h is a hold"),
+        (6, "left: processor 2, capability at h (0): h is a hold"),
         (7, "it still counts 2 at h (0); held there: the capabilities of processors 0 and 2"),
         (8, "at h it holds: nothing; processors 0 and 2 hold one there"),
     ]),
@@ -622,7 +622,7 @@ TOLD = {
         do("feed", p=0, vertex="a", values=[], next=5),
     ], 0, [
         (3, "processor 0 feeds 5 into a and goes on to epoch 1000"),
-        (4, "refused, 54 NotLater: epoch 1000 is not above the token's, which is 1000"),
+        (4, "refused: epoch 1000 is not above the token's, which is 1000"),
         (5, "processor 0's token of a goes from epoch 0 to 1000"),
         (6, '"next":{"to":-1} has "to":-1, which is below 0; right is "next", "close", "stay" or {"to":1}'),
         (7, '"next":{"too":5} is an object, and is to have the key "to" alone'),
@@ -641,7 +641,7 @@ TOLD = {
         (5, "run processors 0 and 2 alone"), (5, "nothing is enabled on processors 0 and 2"),
         (6, "ran 0 steps, then stopped: nothing is enabled on processor 2"),
         (6, "left: enabled steps of processor 1, which did not run"),
-        (7, "refused, 1 NoProcessor: there is no processor 3; there are the processors 0 to 2"),
+        (7, "refused: there is no processor 3; there are the processors 0 to 2"),
         (8, '"only":[] has 0 items; right is a list of 1 to 16 processors\' numbers'),
         (9, "has 17 items"), (10, "has the item -1 at 0, which is below 0"), (11, '"only":1 is a number'),
     ]),

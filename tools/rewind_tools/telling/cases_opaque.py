@@ -40,15 +40,15 @@ OPAQUE_TOLD = {
         (5, "done: the cursor is at 3 of 3 kept steps"),
         (6, "processor 0 sends 5 on port 1 at (2), from the capability that it holds at x (0)"),
         (7, "records of value 5 on processor 0 at xz (2): from 0 to 1"),
-        (8, "refused, 55 NoPort: x has the ports 0 and 1, and the send names port 2"),
+        (8, "refused: x has the ports 0 and 1, and the send names port 2"),
         (9, "processor 0 moves the capability that it holds at x (0) to (1)"),
-        (10, "refused, 56 TooEarly: (0) is not at or after (1), the time of the capability"),
-        (11, "refused, 9 NoRequest: processor 0 holds no capability at x (0); at x it holds: x (1)"),
+        (10, "refused: (0) is not at or after (1), the time of the capability"),
+        (11, "refused: processor 0 holds no capability at x (0); at x it holds: x (1)"),
         (12, "ran 5 steps, then stopped: nothing is enabled"),
-        (12, "left: processor 0, capability at x (1): 53 NotNotified: x is opaque: it is never notified"),
+        (12, "left: processor 0, capability at x (1): x is opaque: it is never notified"),
         (13, "no: its view has x (1) at or before it"),
-        (14, "refused, 53 NotNotified: x is opaque: it is never notified, and holds its capability until a"),
-        (15, "refused, 53 NotNotified: x is opaque"),
+        (14, "refused: x is opaque: it is never notified, and holds its capability until a"),
+        (15, "refused: x is opaque"),
         (16, "it still counts 1 at x (1); held there: the capability of processor 0"),
     ]),
     "what is kept back": ([], [
@@ -58,7 +58,7 @@ OPAQUE_TOLD = {
     ], 0, [
         (9, "done: the cursor is at 7 of 7 kept steps"),
         (10, "processor 0 releases the capability that it holds at x (0)"),
-        (11, "refused, 16 NotAdmissible: xz (0) would be left out, and is positive; strictly before it "
+        (11, "refused: xz (0) would be left out, and is positive; strictly before it "
             "there is neither a negative entry that is left out, too, nor a token of processor 0, nor a "
             "capability that it holds at an opaque vertex"),
         (12, "done: the cursor is at 9 of 9 kept steps"),
@@ -72,14 +72,14 @@ OPAQUE_TOLD = {
         (2, "vertices: x (opaque, 1 port, starts with a capability), z (sink)"),
         (4, "processor 0 sends 5 on port 0 to processor 0, from the capability that it holds at x (0)"),
         (5, "records of value 5 on processor 0 at xz (0): from 0 to 1"),
-        (6, "refused, 1 NoProcessor: there is no processor 2; there are the processors 0 to 1"),
+        (6, "refused: there is no processor 2; there are the processors 0 to 1"),
         (7, "processor 0 keeps the capability that it holds at x (0), and holds a later one at (3)"),
         (8, "processor 0 holds a capability at x (3)"), (9, "the cursor is at 3 of 3 kept steps"),
         (12, "1. processor 0 sends 5 on port 0 to processor 0, from the capability that it holds at x (0)"),
         (12, "2. processor 0 keeps the capability that it holds at x (0), and holds a later one at (3)"),
-        (13, "refused, 9 NoRequest: processor 1 holds no capability at x (0); at x it holds: nothing"),
-        (14, "refused, 9 NoRequest: processor 0 holds no capability at x (0); at x it holds: x (3)"),
-        (15, "refused, 54 NotLater: (3) is not strictly after (3)"),
+        (13, "refused: processor 1 holds no capability at x (0); at x it holds: nothing"),
+        (14, "refused: processor 0 holds no capability at x (0); at x it holds: x (3)"),
+        (15, "refused: (3) is not strictly after (3)"),
         (16, "processor 0 moves the capability that it holds at x (3) to (4)"),
         (17, "processor 0 holds a capability at x (4)"),
         (17, "processor 0 no longer holds a capability at x (3)"),
@@ -89,13 +89,13 @@ OPAQUE_TOLD = {
         send([1]), send([1], vertex="s"), send([1], vertex="h"), release(vertex="s"),
         do("release", p=1, vertex="h", time=[0], to=[1], keep=True), send([0] * 1025, p=1),
     ], 0, [
-        (5, "refused, 9 NoRequest: processor 0 holds no capability at x (0); at x it holds: nothing; "
+        (5, "refused: processor 0 holds no capability at x (0); at x it holds: nothing; "
             "processor 1 holds one there"),
-        (6, "9 NoRequest: s is a vertex (sum); vertices that hold capabilities: h and x"),
-        (7, "9 NoRequest: h is a vertex (hold); vertices that send: x"),
-        (8, "9 NoRequest: s is a vertex (sum); vertices that hold capabilities: h and x"),
-        (9, "9 NoRequest: h is a vertex (hold); vertices that keep a capability beside a later one: x"),
-        (10, "refused, 6 TooManyValues: there are 1025 values; at most 1024 may be"),
+        (6, "s is a vertex (sum); vertices that hold capabilities: h and x"),
+        (7, "h is a vertex (hold); vertices that send: x"),
+        (8, "s is a vertex (sum); vertices that hold capabilities: h and x"),
+        (9, "h is a vertex (hold); vertices that keep a capability beside a later one: x"),
+        (10, "refused: there are 1025 values; at most 1024 may be"),
     ]),
     "words of version 6": ([], [
         V6, TRACED, do("sned", p=0), do("send", p=0, vertex="x", time=[0], values=[1]), send([1], prot=1),
@@ -133,7 +133,7 @@ OPAQUE_TOLD = {
     "a graph of 65 locations in version 5": ([], [
         V5, json.dumps(graph([vertex(f"z{n}", "sink") for n in range(65)], [])),
     ], 2, [
-        (2, "45 TooLarge: there are 65 vertices and edges; at most 64 may be; in version 7 at most 256"),
+        (2, "45 TooLarge: there are 65 vertices and edges; at most 64 may be; in version 8 at most 256"),
     ]),
     "a graph of 256 locations": ([], [
         V6, json.dumps(graph([A, *(vertex(f"z{n}", "sink") for n in range(255))], [])),

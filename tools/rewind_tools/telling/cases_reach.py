@@ -25,7 +25,7 @@ REACH_TOLD = {
         (5, "by which steps does it come to hold that processor 0 has passed z (0)? (1000 states at most)"),
         (5, "after 5 steps, and no fewer"), (5, "processor 0 broadcasts all that is unsent"),
         (6, "at none of 1 state that can be reached; there are more, which were not looked at"),
-        (7, "refused, 50 BadRange: the limit, 0, is not from 1 to 1000000"),
+        (7, "refused: the limit, 0, is not from 1 to 1000000"),
         (8, "run, at most 99 steps, chosen by the seed 1"), (9, "it holds already"),
         (10, "run processors 0 and 7 alone, at most 9 steps, chosen by the seed 1"),
     ]),

@@ -1,4 +1,5 @@
 """The commands and queries of a script in words."""
+from rewind_tools.ports import operators_of, ports_of
 from rewind_tools.script import literals_in
 from rewind_tools.telling.forms import listed
 from rewind_tools.telling.values import shown
@@ -116,7 +117,10 @@ def reach(it):
 def why(it):
     there = at(it["at"], it["time"])
     what = f"all that is strictly before {there}" if it.get("before") else there
-    return f"why does processor {it['q']} not consider {what} finished?"
+    asked = f"why does processor {it['q']} not consider {what} finished"
+    if "rest" not in it:
+        return f"{asked}?"
+    return f"{asked} when all that can happen has happened? ({counted(it['rest'], 'step')} at most)"
 
 
 def frontier(it):
@@ -215,10 +219,14 @@ def edge_words(it):
 
 
 def graph_words(graph):
-    """What a graph has, a sentence each for its vertices and its edges."""
-    vertices = ", ".join(map(vertex_words, graph["vertices"])) or "none"
-    edges = ", ".join(map(edge_words, graph["edges"])) or "none"
-    return [f"vertices: {vertices}", f"edges: {edges}"]
+    """What a graph has, a sentence each for its operators by ports, its vertices and its edges."""
+    operators = operators_of(graph)
+    by_ports, within = ports_of(operators), {it["name"] for one in operators.values() for it in one.edges}
+    vertices = [vertex_words(it) for it in graph["vertices"] if it["name"] not in by_ports]
+    edges = [edge_words(it) for it in graph["edges"] if it["name"] not in within]
+    said = [f"operators by ports: {'; '.join(map(str, operators.values()))}"] if operators else []
+    said += [] if operators and not vertices else [f"vertices: {', '.join(vertices) or 'none'}"]
+    return [*said, f"edges: {', '.join(edges) or 'none'}"]
 
 
 def command_words(value):

@@ -43,7 +43,7 @@ def left(script, number, words, state, teller, only=None):
     for (step, thing), reply in zip(steps, replies):
         if "error" not in reply:
             break
-        why = teller.refused(step, reply, None)[0].removeprefix("refused, ")
+        why = teller.refused(step, reply, None)[0].removeprefix("refused: ")
         said.append(f"processor {step.get('p', step.get('from'))}, {thing}: {why}")
     if not steps:
         said = [f"nothing that {processors(only)} could move" if only else NOTHING_LEFT]

@@ -2,7 +2,7 @@ use Rattle.std.proofs.Common.{◌≡◌, ◌≢◌, ◌+◌, ◌≤◌, ℕ, ℤ
 use Rattle.nd_time.specs.Limits.{max_told}
 use Rattle.nd_history.specs.History.{shown_at, ChangesTo, none_yet, no_change, one_change, AreAll}
 use Rattle.std.proofs.lemmas.Int.{to_z-of_z}
-use Rattle.nd_history.specs.declared.change_list.Changed.{Changed}
+use Rattle.nd_timeline.specs.declared.changed.Changed.{Changed}
 use Rattle.nd_history.proofs.WalkLemmas.{at_position}
 use Rattle.nd_history.proofs.history.history.Goals as goal
 use Rattle.nd_history.proofs.history.history.Goals.{then-after-before+else-as_slice-eq-MAX_TOLD+in_ok-push, else-after-before}

@@ -6,4 +6,4 @@ pub returns-clause-choice : goal.returns-clause-choice
 returns-clause-choice g c = one_choice {A = g.row.A.Denot}
 
 pub returns-clause-machine : goal.returns-clause-machine
-returns-clause-machine g c = replies_determine g.row.A.Denot
+returns-clause-machine g c = replies_determine g.row.A.Denot c.candidates_are_in_turn.ensures.first

@@ -1,6 +1,6 @@
 use Rattle.std.proofs.Common.{false, sym, true}
-use Rattle.rewind_forms.specs.Candidates.{candidates_data}
-use Rattle.rewind_forms.specs.Replies.{candidates}
+use Rattle.rewind_replies.specs.Candidates.{candidates_data}
+use Rattle.rewind_replies.specs.Replies.{candidates}
 use Rattle.rewind_answers.proofs.TextLaws.{tells}
 use Rattle.rewind_answers.proofs.ahead.answer_candidates.Goals as goal
 

@@ -1,6 +1,6 @@
 use Rattle.std.proofs.Common.{arith, inl, inr, refl}
-use Rattle.rewind_forms.specs.Replies.{no_processor, times}
-use Rattle.rewind_forms.specs.Times.{times_data}
+use Rattle.rewind_replies.specs.Replies.{no_processor, times}
+use Rattle.rewind_replies.specs.Times.{times_data}
 use Rattle.rewind_answers.proofs.TextLaws.{tells}
 use Rattle.rewind_answers.proofs.ahead.answer_frontier_at.Goals as goal
 

@@ -1,6 +1,6 @@
 use Rattle.std.proofs.Common.{◌∙◌, ◌∷◌, [], ap, length-append, rules}
 use Rattle.nd_session.specs.Log.{entry_of}
-use Rattle.rewind_forms.specs.Replies.{fault, reply_data}
+use Rattle.rewind_replies.specs.Replies.{fault, reply_data}
 use Rattle.rewind_answers.specs.Answers.{CommandReply, log_full, moved, no_memory}
 use Rattle.rewind_answers.specs.Stages.{logged}
 use Rattle.rewind_answers.proofs.TextLaws.{told_or_lost}

@@ -2,7 +2,7 @@ use Rattle.std.proofs.Common.{◌≡◌, ◌∙◌, Some, ap, arith, string_byte
 use Rattle.nd_cluster.specs.Starting.{IsStartFault}
 use Rattle.nd_cluster.specs.declared.start.StartFault.{StartFault}
 use Rattle.nd_cluster.specs.declared.start.StartFault.TheVariants.{LoopNotStrict}
-use Rattle.rewind_forms.specs.Replies.{location_fault}
+use Rattle.rewind_replies.specs.Replies.{location_fault}
 use Rattle.rewind_answers.proofs.AnswerLaws.{not_strict_replies}
 use Rattle.rewind_answers.proofs.answer.start_on.Goals as goal
 

@@ -3,9 +3,9 @@ use Rattle.std.proofs.lemmas.Result.{IfOk-weaker}
 use Rattle.serde_json.specs.Data.{Data}
 use Rattle.nd_graph.specs.Graph.{Dataflow}
 use Rattle.nd_steps.specs.Effect.{lists_of}
-use Rattle.rewind_forms.specs.Effects.{effect_data}
-use Rattle.rewind_forms.specs.Objects.{object_of}
-use Rattle.rewind_forms.specs.Replies.{effect}
+use Rattle.rewind_replies.specs.Effects.{effect_data}
+use Rattle.nd_state_json.specs.Objects.{object_of}
+use Rattle.rewind_replies.specs.Replies.{effect}
 use Rattle.rewind_answers.specs.Explained.{effected, uneffected}
 use Rattle.rewind_answers.proofs.TextLaws.{tells}
 use Rattle.rewind_answers.proofs.kept.answer_effect.Goals as goal

@@ -3,8 +3,8 @@ use Rattle.serde_json.specs.Data.{Data}
 use Rattle.nd_graph.specs.Graph.{Dataflow}
 use Rattle.nd_timeline.specs.Faults.{code_of}
 use Rattle.nd_timeline.specs.declared.fault.Fault.TheVariants.{NoSuchPoint}
-use Rattle.rewind_forms.specs.Objects.{object_of}
-use Rattle.rewind_forms.specs.Replies.{fault, kept_step}
+use Rattle.nd_state_json.specs.Objects.{object_of}
+use Rattle.rewind_replies.specs.Replies.{fault, kept_step}
 use Rattle.rewind_answers.proofs.TextLaws.{tells}
 use Rattle.rewind_answers.proofs.kept.answer_step.Goals as goal
 

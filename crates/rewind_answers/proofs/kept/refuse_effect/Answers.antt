@@ -1,5 +1,5 @@
 use Rattle.std.proofs.Common.{◌∙◌, ap, refl, Some}
-use Rattle.rewind_forms.specs.Replies.{fault}
+use Rattle.rewind_replies.specs.Replies.{fault}
 use Rattle.rewind_answers.proofs.TextLaws.{tells}
 use Rattle.rewind_answers.proofs.kept.refuse_effect.Goals as goal
 

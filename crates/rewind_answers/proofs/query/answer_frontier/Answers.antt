@@ -1,6 +1,6 @@
 use Rattle.std.proofs.Common.{◌<◌, arith, inl, length, refl}
 use Rattle.nd_state_json.specs.StateText.{entries_data}
-use Rattle.rewind_forms.specs.Replies.{frontier, no_processor}
+use Rattle.rewind_replies.specs.Replies.{frontier, no_processor}
 use Rattle.rewind_answers.proofs.AnswerLaws.{frontier_replies}
 use Rattle.rewind_answers.proofs.TextLaws.{tells}
 use Rattle.rewind_answers.proofs.query.answer_frontier.Goals as goal

@@ -1,6 +1,6 @@
 use Rattle.std.proofs.Common.{◌<◌, ap, arith, inl, inr, length, refl}
 use Rattle.nd_state_json.specs.StateText.{point_data}
-use Rattle.rewind_forms.specs.Replies.{no_processor, not_passed, passed}
+use Rattle.rewind_replies.specs.Replies.{no_processor, not_passed, passed}
 use Rattle.rewind_answers.proofs.TextLaws.{tells}
 use Rattle.rewind_answers.proofs.query.answer_passed.Goals as goal
 

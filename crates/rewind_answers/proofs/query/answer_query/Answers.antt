@@ -1,12 +1,13 @@
 use Rattle.std.proofs.Common.{◌≡◌, refl}
 use Rattle.nd_state_json.specs.StateText.{state_data}
 use Rattle.nd_timeline.specs.Timeline.{cluster_of}
-use Rattle.rewind_forms.specs.Replies.{count, state}
-use Rattle.rewind_forms.specs.declared.queries.Query.TheVariants.{State, Count, Before, View, Frontier, Passed, Search, Export, Why, Changes, Step, Candidates, Effect, Turns, FrontierAt, Reach}
+use Rattle.rewind_replies.specs.Replies.{count, state}
+use Rattle.rewind_forms.specs.declared.queries.Query.TheVariants.{State, Count, Before, View, Frontier, Passed, Search, Export, Why, Changes, Step, Candidates, Effect, Turns, FrontierAt, Reach, WhyAtRest}
 use Rattle.rewind_answers.specs.Ahead.{CandidatesReply, FrontierAtReply}
 use Rattle.rewind_answers.specs.Answers.{BeforeReply, ViewReply, FrontierReply, PassedReply, SearchReply, true_count}
 use Rattle.rewind_answers.specs.Explained.{WhyReply, ChangesReply, ExportReply, StepReply, EffectReply, TurnsReply}
 use Rattle.rewind_answers.specs.Reached.{ReachReply}
+use Rattle.rewind_answers.specs.AtRest.{WhyAtRestReply}
 use Rattle.rewind_answers.proofs.TextLaws.{query_text}
 use Rattle.rewind_answers.proofs.query.answer_query.Goals as goal
 
@@ -133,4 +134,12 @@ returns-in-Reach g c = record {
       let m = c.args.state.now.machine.timeline in
       query_text (λ s v. ReachReply s c.in-Reach.asked v) m c.cluster-cluster.result.now (cluster_of m) c.args.query.now (Reach c.in-Reach.asked) c.answer_reach.result
       c.cluster-cluster.ensures.value c.in-Reach.is (λ v h. h) c.answer_reach.ensures.reply;
+}
+
+pub returns-in-WhyAtRest : goal.returns-in-WhyAtRest
+returns-in-WhyAtRest g c = record {
+  reply =
+      let m = c.args.state.now.machine.timeline in
+      query_text (λ t v. WhyAtRestReply (cluster_of t) t.cursor c.in-WhyAtRest.asked v) m c.timeline-in-WhyAtRest.result.now m c.args.query.now (WhyAtRest c.in-WhyAtRest.asked) c.answer_why_at_rest.result
+      c.timeline-in-WhyAtRest.ensures.value c.in-WhyAtRest.is (λ v h. h) c.answer_why_at_rest.ensures.reply;
 }

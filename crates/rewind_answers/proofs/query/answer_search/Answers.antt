@@ -1,5 +1,5 @@
 use Rattle.std.proofs.lemmas.Result.{IfOk-weaker}
-use Rattle.rewind_forms.specs.Replies.{found}
+use Rattle.rewind_replies.specs.Replies.{found}
 use Rattle.rewind_answers.proofs.AnswerLaws.{found_replies, failed_replies}
 use Rattle.rewind_answers.proofs.TextLaws.{tells}
 use Rattle.rewind_answers.proofs.query.answer_search.Goals as goal

@@ -1,7 +1,7 @@
 use Rattle.std.proofs.Common.{◌<◌, ◌∙◌, ap, arith, inl, inr, length, refl}
 use Rattle.nd_delta.specs.Delta.{entries}
 use Rattle.nd_state_json.specs.StateText.{entries_data}
-use Rattle.rewind_forms.specs.Replies.{known, no_processor}
+use Rattle.rewind_replies.specs.Replies.{known, no_processor}
 use Rattle.rewind_answers.proofs.TextLaws.{tells}
 use Rattle.rewind_answers.proofs.query.answer_view.Goals as goal
 

@@ -5,7 +5,7 @@ use Rattle.serde_json.specs.Written.{compact_text}
 use Rattle.nd_history.specs.Faults.{code_of_search}
 use Rattle.nd_history.specs.declared.fault.SearchFault.{SearchFault}
 use Rattle.nd_history.specs.declared.fault.SearchFault.TheVariants as search
-use Rattle.rewind_forms.specs.Replies.{fault, piece_fault}
+use Rattle.rewind_replies.specs.Replies.{fault, piece_fault}
 use Rattle.rewind_answers.specs.Answers.{search_fault}
 use Rattle.rewind_answers.proofs.TextLaws.{tells}
 use Rattle.rewind_answers.proofs.query.refuse_search.Goals as goal

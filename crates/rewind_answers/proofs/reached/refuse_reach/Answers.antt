@@ -1,6 +1,6 @@
 use Rattle.std.proofs.Common.{◌≡◌, ◌∙◌, Some, ap}
 use Rattle.nd_reach.specs.Faults.{code_of_reach}
-use Rattle.rewind_forms.specs.Replies.{fault}
+use Rattle.rewind_replies.specs.Replies.{fault}
 use Rattle.rewind_answers.specs.Reached.{reach_fault}
 use Rattle.rewind_answers.proofs.TextLaws.{tells}
 use Rattle.rewind_answers.proofs.reached.refuse_reach.Goals as goal

@@ -1,4 +1,4 @@
-use Rattle.rewind_forms.specs.Replies.{graph}
+use Rattle.rewind_replies.specs.Replies.{graph}
 use Rattle.rewind_answers.proofs.stage.answer_graph.Goals as goal
 
 pub returns-in_ok-text-in-Started : goal.returns-in_ok-text-in-Started

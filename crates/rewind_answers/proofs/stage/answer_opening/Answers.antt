@@ -1,5 +1,5 @@
 use Rattle.std.proofs.Common.{rules}
-use Rattle.rewind_forms.specs.Replies.{version}
+use Rattle.rewind_replies.specs.Replies.{version}
 use Rattle.rewind_forms.specs.Versions.{number_of}
 use Rattle.rewind_answers.proofs.stage.answer_opening.Goals as goal
 

@@ -1,7 +1,7 @@
 use Rattle.std.proofs.Common.{false, sym, true}
 use Rattle.std.proofs.lemmas.Result.{IfOk-weaker}
-use Rattle.rewind_forms.specs.Changes.{changes_data}
-use Rattle.rewind_forms.specs.Replies.{changed}
+use Rattle.rewind_replies.specs.Changes.{changes_data}
+use Rattle.rewind_replies.specs.Replies.{changed}
 use Rattle.rewind_answers.specs.Explained.{told, untold}
 use Rattle.rewind_answers.proofs.TextLaws.{tells}
 use Rattle.rewind_answers.proofs.why.answer_changes.Goals as goal

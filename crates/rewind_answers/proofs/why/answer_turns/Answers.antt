@@ -1,7 +1,7 @@
 use Rattle.std.proofs.Common.{false, map, sym, true}
 use Rattle.std.proofs.lemmas.Result.{IfOk-weaker}
 use Rattle.nd_state_json.specs.StateText.{row, natural}
-use Rattle.rewind_forms.specs.Replies.{turns}
+use Rattle.rewind_replies.specs.Replies.{turns}
 use Rattle.rewind_answers.specs.Explained.{listed, unlisted}
 use Rattle.rewind_answers.proofs.TextLaws.{tells}
 use Rattle.rewind_answers.proofs.why.answer_turns.Goals as goal

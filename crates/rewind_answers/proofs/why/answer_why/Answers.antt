@@ -2,8 +2,8 @@ use Rattle.std.proofs.Common.{List, arith, inl, inr, refl}
 use Rattle.serde_json.specs.Data.{Data}
 use Rattle.nd_graph.specs.Graph.{Dataflow}
 use Rattle.nd_why.specs.Account.{Account}
-use Rattle.rewind_forms.specs.Reasons.{reasons_data}
-use Rattle.rewind_forms.specs.Replies.{no_processor, why}
+use Rattle.rewind_replies.specs.Reasons.{reasons_data}
+use Rattle.rewind_replies.specs.Replies.{no_processor, why}
 use Rattle.rewind_answers.proofs.TextLaws.{tells}
 use Rattle.rewind_answers.proofs.why.answer_why.Goals as goal
 

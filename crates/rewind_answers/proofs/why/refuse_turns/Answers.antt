@@ -2,7 +2,7 @@ use Rattle.std.proofs.Common.{◌≡◌, ◌≢◌, ◌∙◌, ap, refl, Some}
 use Rattle.nd_history.specs.Faults.{code_of_turns}
 use Rattle.nd_history.specs.declared.fault.TurnsFault.{TurnsFault}
 use Rattle.nd_history.specs.declared.fault.TurnsFault.TheVariants as refused
-use Rattle.rewind_forms.specs.Replies.{fault}
+use Rattle.rewind_replies.specs.Replies.{fault}
 use Rattle.rewind_answers.specs.Explained.{turns_fault}
 use Rattle.rewind_answers.proofs.TextLaws.{tells}
 use Rattle.rewind_answers.proofs.why.refuse_turns.Goals as goal

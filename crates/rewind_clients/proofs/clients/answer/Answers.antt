@@ -1,4 +1,4 @@
-use Rattle.rewind_forms.specs.Errors.{error_data}
+use Rattle.rewind_replies.specs.Errors.{error_data}
 use Rattle.rewind_clients.proofs.WrittenLemmas.{faulty-told, refused-told, version-ends}
 use Rattle.rewind_clients.proofs.clients.answer.Goals as goal
 

@@ -1,7 +1,7 @@
 use Rattle.std.proofs.Common.{◌∙◌, ◌++◌, ◌∷◌, [], ℕ, ap, subst}
 use Rattle.std.proofs.lemmas.List.{append-nil}
 use Rattle.std.proofs.lemmas.Result.{err_from_is_err_and}
-use Rattle.rewind_forms.specs.Replies.{version}
+use Rattle.rewind_replies.specs.Replies.{version}
 use Rattle.rewind_clients.specs.Gathered.{Gathered}
 use Rattle.rewind_clients.proofs.RunsLemmas.{stops-put}
 use Rattle.rewind_clients.proofs.write.put_version.Goals as goal

@@ -1,4 +1,4 @@
-use Rattle.rewind_forms.specs.Replies.{graph}
+use Rattle.rewind_replies.specs.Replies.{graph}
 use Rattle.std.proofs.Common.{[], ◌∷◌, ◌++◌}
 use Rattle.std.proofs.lemmas.List.{append-nil}
 use Rattle.std.proofs.lemmas.Result.{err_from_is_err_and}

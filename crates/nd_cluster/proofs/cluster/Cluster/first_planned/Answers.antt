@@ -5,6 +5,7 @@ use Rattle.nd_steps.specs.declared.record.Record.{Record}
 use Rattle.nd_cluster.specs.Records.{IsPlanned}
 use Rattle.nd_cluster.specs.Candidates.{candidates_among}
 use Rattle.nd_cluster.specs.Choice.{AreRefused, Chooses, Finds, candidates_from}
+use Rattle.nd_cluster.specs.Order.{IsNext}
 use Rattle.nd_cluster.proofs.CandidatesLemmas.{complete_among, complete_from}
 use Rattle.nd_cluster.proofs.ChoiceLemmas.{none_exactly}
 use Rattle.nd_cluster.proofs.cluster.Cluster.first_planned.Goals as goal
@@ -14,6 +15,13 @@ returns-clause-chosen g c =
     let s = c.args.self.now in
     let all = candidates_from {A = g.row.A.Denot} s c.args.turn (option_copied c.args.only) in
     IfOk-weaker c.first_from.result (Finds s all) (λ found. Chooses s all (option_map (λ (r : Record g.row.A.Denot). r.step) found)) (λ found h. h.0) c.first_from.ensures
+
+pub returns-clause-first : goal.returns-clause-first
+returns-clause-first g c =
+    let s = c.args.self.now in
+    let only = option_copied c.args.only in
+    IfOk-weaker c.first_from.result (Finds s (candidates_from s c.args.turn only)) (λ found. IsNext s c.args.turn only (option_map (λ (r : Record g.row.A.Denot). r.step) found))
+    (λ found h. (c.candidates_are_in_turn.ensures.first s c.args.turn only (option_map (λ (r : Record g.row.A.Denot). r.step) found)).0 h.0) c.first_from.ensures
 
 pub returns-clause-planned : goal.returns-clause-planned
 returns-clause-planned g c =

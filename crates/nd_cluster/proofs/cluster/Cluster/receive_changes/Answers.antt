@@ -5,7 +5,7 @@ use Rattle.nd_delta.specs.Delta.{plus, IsTooLarge}
 use Rattle.nd_protocol.specs.State.{ClusterState, view, queue}
 use Rattle.nd_protocol.specs.declared.refusal.Refusal.{Refusal}
 use Rattle.nd_protocol.specs.declared.refusal.Refusal.TheVariants.{Memory}
-use Rattle.nd_steps.specs.Refusals.{ReceiveFails}
+use Rattle.nd_steps.specs.Refusals.{FrontFails}
 use Rattle.nd_cluster.proofs.Exchanges.{error_is, receive_plans, receive_refused, receive_wants_memory}
 use Rattle.nd_cluster.proofs.cluster.Cluster.receive_changes.Goals as goal
 
@@ -27,21 +27,21 @@ returns-in_err-change-clause-refused g c =
     let s = c.args.self.now in
     let from : c.args.from < length s.processors = omega (arith, c.n.ensures.value, c.if-sender-n.false) in
     let to : c.args.to < length s.processors = omega (arith, c.n-else-sender-n.ensures.value, c.if-receiver-n.false) in
-    let fails = subst (λ (t : ClusterState). ReceiveFails (view t c.args.to) (queue t c.args.from c.args.to) c.in_err-change.field-0.0) c.self.view_is c.in_err-change.ensures.refused in
+    let fails = subst (λ (t : ClusterState). FrontFails (view t c.args.to) (queue t c.args.from c.args.to) c.in_err-change.field-0.0) c.self.view_is c.in_err-change.ensures.refused in
     let p = err_from_is_err_and c.from_residual.result c.from_residual.ensures.1 in
     rw (p.1) (receive_refused _ s c.args.from c.args.to c.processor_count.ensures.state from to p.0
-    (subst (ReceiveFails (view s c.args.to) (queue s c.args.from c.args.to)) (sym p.2) fails))
+    (subst (FrontFails (view s c.args.to) (queue s c.args.from c.args.to)) (sym p.2) fails))
 
 pub returns-in_err-change-clause-memory : goal.returns-in_err-change-clause-memory
 returns-in_err-change-clause-memory g c = λ e.
     let s = c.args.self.now in
     let from : c.args.from < length s.processors = omega (arith, c.n.ensures.value, c.if-sender-n.false) in
     let to : c.args.to < length s.processors = omega (arith, c.n-else-sender-n.ensures.value, c.if-receiver-n.false) in
-    let fails = subst (λ (t : ClusterState). ReceiveFails (view t c.args.to) (queue t c.args.from c.args.to) c.in_err-change.field-0.0) c.self.view_is c.in_err-change.ensures.refused in
+    let fails = subst (λ (t : ClusterState). FrontFails (view t c.args.to) (queue t c.args.from c.args.to) c.in_err-change.field-0.0) c.self.view_is c.in_err-change.ensures.refused in
     let p = err_from_is_err_and c.from_residual.result c.from_residual.ensures.1 in
     let memory : Memory ≡ c.in_err-change.field-0.0 = error_is c.from_residual.result Memory p.0 e p.1 ∙ p.2 in
     receive_wants_memory _ s c.args.from c.args.to c.processor_count.ensures.state from to
-    (subst (ReceiveFails (view s c.args.to) (queue s c.args.from c.args.to)) (sym memory) fails)
+    (subst (FrontFails (view s c.args.to) (queue s c.args.from c.args.to)) (sym memory) fails)
 
 pub returns-clause-ok : goal.returns-clause-ok
 returns-clause-ok g c =

@@ -6,8 +6,9 @@ use Rattle.nd_protocol.specs.declared.step.Step.{Step}
 use Rattle.nd_steps.specs.declared.record.Record.{Record}
 use Rattle.nd_cluster.specs.Records.{IsPlanned}
 use Rattle.nd_cluster.specs.Candidates.{candidates_among}
-use Rattle.nd_cluster.specs.Choice.{AreRefused, Chooses, candidates_from, candidates_by}
-use Rattle.nd_timeline.specs.Seeds.{tried}
+use Rattle.nd_cluster.specs.Choice.{AreRefused, Chooses, candidates_by}
+use Rattle.nd_cluster.specs.Order.{IsNext}
+use Rattle.nd_timeline.specs.Seeds.{IsChosen}
 use Rattle.nd_timeline.specs.Timeline.{cluster_of}
 use Rattle.nd_timeline.proofs.RunLemmas.{by_turn, by_lot}
 use Rattle.nd_timeline.proofs.timeline.Timeline.next_planned.Goals as goal
@@ -21,9 +22,9 @@ returns-in-None-clause-chosen g c =
     let s = cluster_of c.args.self.now in
     let k = c.cluster-cluster.result.now in
     let only = option_copied c.args.only in
-    IfOk-weaker c.first_planned.result (λ (r : Option (Record g.row.A.Denot)). Chooses k (candidates_from k c.at-at.result only) (step_in r)) (λ (r : Option (Record g.row.A.Denot)). Chooses s (tried s c.args.self.now.cursor only c.args.seed) (step_in r))
+    IfOk-weaker c.first_planned.result (λ (r : Option (Record g.row.A.Denot)). IsNext k c.at-at.result only (step_in r)) (λ (r : Option (Record g.row.A.Denot)). IsChosen s c.args.self.now.cursor only c.args.seed (step_in r))
     (λ r h. by_turn s k c.args.self.now.cursor c.at-at.result only c.args.seed (step_in r) c.cluster-cluster.ensures.value c.at-at.ensures.value c.in-None.is h)
-    c.first_planned.ensures.chosen
+    c.first_planned.ensures.first
 
 pub returns-in-None-clause-planned : goal.returns-in-None-clause-planned
 returns-in-None-clause-planned g c =
@@ -40,7 +41,7 @@ returns-in-Some-clause-chosen g c =
     let s = cluster_of c.args.self.now in
     let k = c.cluster-cluster.result.now in
     let only = option_copied c.args.only in
-    IfOk-weaker c.drawn_planned.result (λ (r : Option (Record g.row.A.Denot)). Chooses k (candidates_by k c.mix.result only) (step_in r)) (λ (r : Option (Record g.row.A.Denot)). Chooses s (tried s c.args.self.now.cursor only c.args.seed) (step_in r))
+    IfOk-weaker c.drawn_planned.result (λ (r : Option (Record g.row.A.Denot)). Chooses k (candidates_by k c.mix.result only) (step_in r)) (λ (r : Option (Record g.row.A.Denot)). IsChosen s c.args.self.now.cursor only c.args.seed (step_in r))
     (λ r h. by_lot s k c.args.self.now.cursor c.at-at.result only c.args.seed (step_in r) c.cluster-cluster.ensures.value c.at-at.ensures.value c.in-Some.seed c.mix.result c.in-Some.is c.mix.ensures.value h)
     c.drawn_planned.ensures.chosen
 

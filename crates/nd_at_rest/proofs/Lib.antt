@@ -1,0 +1,4 @@
+pub mod Waiting
+pub mod Refused
+pub mod Steps
+pub mod Answered

@@ -1,0 +1,12 @@
+pub mod Diamond
+pub mod Maps
+pub mod Vertex
+pub mod Firings
+pub mod Later
+pub mod Core
+pub mod Moving
+pub mod Heard
+pub mod Ends
+pub mod Bound
+pub mod Stuck
+pub mod Resting

@@ -1,0 +1,3 @@
+pub mod Moves
+pub mod Rest
+pub mod Laws

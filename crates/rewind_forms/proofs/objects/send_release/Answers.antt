@@ -1,4 +1,0 @@
-use Rattle.rewind_forms.proofs.objects.send_release.Goals as goal
-
-pub returns-then-later : goal.returns-then-later
-returns-then-later g c = rw (c.in-Some.is, c.if-later.true) c.send-then-later.ensures

@@ -1,0 +1,85 @@
+"""A second program with the same steps, which is asked what may take long: so the session goes on meanwhile,
+and the question ends at once when it is stopped.
+
+    second = Second(journal, report)
+    second.ask(line, *second.here())    the reply to a line; Stopped, if it was stopped
+    second.stop()                       kills the program, from any thread
+
+The program starts with the first question, and is brought to the steps that a question is about: by those
+that it lacks alone. After a stop it begins anew."""
+import bisect
+import threading
+
+from rewind_tools.journal import Stopped, common, replay
+from rewind_tools.session import Ended, Session
+
+# Over how many positions a question may go that does not take long.
+FEW = 2000
+
+
+def is_long(value):
+    """Whether the answer to a line may take long."""
+    if value.get("do") in ("turns", "changes", "search"):
+        lo, hi = value.get("lo"), value.get("hi")
+        return type(lo) is int and type(hi) is int and hi - lo > FEW
+    return value.get("do") == "reach" or "rest" in value
+
+
+class Second:
+    """The second program of a session. `report` is told how far it is while it catches up."""
+
+    def __init__(self, journal, report=lambda text: None):
+        self.journal, self.report, self.lock = journal, report, threading.Lock()
+        self.session, self.entries, self.is_stopped = None, [], False
+
+    def here(self):
+        """The kept steps and the cursor, which stay as they are now."""
+        return [*self.journal.entries], self.journal.at
+
+    def ask(self, value, entries, at):
+        """The reply to a line at a position among steps."""
+        with self.lock:
+            self.is_stopped = not self.journal.may_go_on()
+            try:
+                self.bring(entries, max(at, value.get("hi", 0)))
+                self.session.ask({"do": "jump", "to": at})
+                self.report("working")
+                return self.session.ask(value)
+            except Ended as fault:
+                self.close()
+                raise Stopped("cancelled" if self.is_stopped else f"no answer: {fault}") from fault
+
+    def bring(self, entries, position):
+        """Brings the program to steps, as far as they lead to a position."""
+        if self.session is None:
+            first = self.journal.session
+            self.session, self.entries = Session(first.graph, first.words, first.version), []
+        if self.is_stopped:
+            raise Ended("stopped")
+        wanted = entries[: bisect.bisect_left(entries, position, key=lambda it: it.begin)]
+        same = common(self.entries, wanted)
+        if same == len(wanted):
+            return
+        del self.entries[same:]
+        for piece in replay(self.session, wanted, same):
+            self.entries += piece
+            if piece[-1].end < position:
+                self.report(f"a second program is at position {piece[-1].end} of {position}")
+            if self.is_stopped:
+                raise Ended("stopped")
+
+    def stop(self):
+        """Has the question that is asked end at once, if there is one."""
+        if self.lock.locked():
+            self.kill()
+
+    def kill(self):
+        """Ends the program at once."""
+        self.is_stopped = True
+        if self.session:
+            self.session.kill()
+
+    def close(self):
+        if self.session:
+            self.session.close()
+            self.session = None

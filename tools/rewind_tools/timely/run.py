@@ -1,0 +1,98 @@
+"""A run of a timely program, from its logs to its ending.
+
+    run = Run(["log0.jsonl", "log1.jsonl"], on_note)      Misread, if the logs cannot be followed
+    run.follow()
+    run.ending                    an Ending of following/endings.py, of the steps
+    run.save(path)
+    run.close()"""
+import time
+
+from rewind_tools.following.checking import Follower
+from rewind_tools.following.endings import ending_of
+from rewind_tools.following.epochs import Epochs
+from rewind_tools.following.merging import Merging
+from rewind_tools.following.places import Places
+from rewind_tools.following.program import GraphRefused, Program
+from rewind_tools.following.saving import compact
+from rewind_tools.session import write_text
+from rewind_tools.timely import logs
+from rewind_tools.timely.batches import Progress
+from rewind_tools.timely.dataflow import Dataflow
+from rewind_tools.timely.planning import NoOrder, Planner
+
+
+# How many seconds pass before it is said how far the work is; then it is said after that many times as long.
+FIRST, TIMES = 2, 2
+
+
+class Reporter:
+    """Says how far the work is, if that takes some seconds."""
+
+    def __init__(self, on_note):
+        self.on_note, self.begun, self.wait = on_note, time.monotonic(), FIRST
+
+    def __call__(self, what, done, count):
+        passed = time.monotonic() - self.begun
+        if passed >= self.wait:
+            self.wait = TIMES * passed
+            self.on_note(f"timely: {done:,} of {count:,} {what} so far")
+
+
+class Run:
+    def __init__(self, paths, on_note):
+        self.report = Reporter(on_note)
+        self.logs = logs.read(paths, self.report)
+        self.dataflow = Dataflow(self.logs)
+        self.progress = Progress(self.logs, self.dataflow)
+        self.planner = Planner(self.dataflow, self.progress, self.report)
+        self.ending = self.follower = None
+        self.program = self.opened(on_note)
+        self.program.progress = lambda _, done, count: self.report("steps executed", done, count)
+        self.epochs = Epochs()
+        self.epochs.found |= self.progress.times
+        self.epochs.close()
+
+    def opened(self, on_note):
+        graph = self.dataflow.graph()
+        try:
+            return Program(graph, len(self.logs), on_note)
+        except GraphRefused as why:
+            words = "; ".join(it.removeprefix("faulty, ") for it in why.sentences)
+            words = f"the program refuses the graph: {words}"
+            raise logs.Unsupported(self.first_path(), None, words) from why
+
+    def first_path(self):
+        return next(it.path for it in self.logs if it.path)
+
+    def follow(self):
+        """Plans the traces, and executes them."""
+        try:
+            self.planner.plan()
+        except NoOrder as why:
+            batch = why.waiting[0]
+            raise logs.Unsupported(batch.log.path, batch.line, str(why)) from why
+        lines = [self.planner.lines(it) for it in self.planner.workers]
+        merging = Merging(lines, Places(self.program.graph, len(lines)))
+        self.follower = Follower(self.program, merging)
+        self.follower.follow()
+        self.ending = ending_of(self.follower, self.logs)
+
+    def save(self, path):
+        """Writes the steps as a script, and where each comes from."""
+        executed, opening = self.follower.executed, [{"version": self.program.version}, self.program.graph]
+        script = [compact(it) for it in opening] + [it.text.decode() for it in executed]
+        write_text(path, "".join(f"{it}\n" for it in script))
+        lines = [{"epoch": epoch, "rank": rank} for rank, epoch in enumerate(self.epochs.order)]
+        for number, it in enumerate(executed, len(opening) + 1):
+            lines.append({"script": number, **self.place(it)})
+        write_text(f"{path}.lines", "".join(f"{compact(it)}\n" for it in lines))
+
+    def place(self, step):
+        """The batch of a step: its file, its line, and its number."""
+        if step.batch is None:
+            log = self.logs[step.worker]
+            return {"file": log.path or "no log", "line": log.count, "note": "no batch says so"}
+        return {"file": step.batch.log.path, "line": step.batch.line, "note": f"batch {step.batch.seq_no}"}
+
+    def close(self):
+        self.program.close()
