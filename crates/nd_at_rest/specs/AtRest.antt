@@ -1,4 +1,4 @@
--- Why a processor does not consider a pointstamp finished in the state in which the run to rest stops (this project's own rule).
+-- Why a processor does not consider a pointstamp finished in the state in which the run to rest stops.
 use Rattle.std.specs.Prelude.{◌≡◌, ◌↔◌, ℕ, IsTrue, List, [], length}
 use Rattle.nd_view.specs.View.{IsPassedBefore}
 use Rattle.nd_protocol.specs.State.{ClusterState, view}

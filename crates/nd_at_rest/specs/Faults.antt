@@ -1,4 +1,4 @@
--- When a question for what is left at rest is refused, and how a reply reports it (this project's own rule).
+-- When a question for what is left at rest is refused, and how a reply reports it.
 use Rattle.std.specs.Prelude.{◌≡◌, ◌⊎◌, ℕ, ◌<◌, ◌≤◌, codes}
 use Rattle.nd_time.specs.Code.{Code, coded}
 use Rattle.nd_time.specs.Limits.{max_kept}

@@ -1,4 +1,4 @@
--- What the state at rest tells of every order of the steps (this project's own rule).
+-- What the state at rest tells of every order of the steps.
 use Rattle.std.specs.Prelude.{◌≡◌, ◌≤◌, List, All, length}
 use Rattle.nd_view.specs.View.{IsPassedBefore}
 use Rattle.nd_protocol.specs.State.{ClusterState, view}

@@ -1,4 +1,4 @@
--- The run to rest: the steps that it executes, and why it stops (this project's own rule).
+-- The run to rest: the steps that it executes, and why it stops.
 use Rattle.std.specs.Prelude.{◌≡◌, ◌≤◌, ⊤, ℕ, suc, List, [], ◌∷◌, length, None, Some, codes}
 use Rattle.nd_protocol.specs.State.{ClusterState}
 use Rattle.nd_protocol.specs.Steps.{stepped, after}

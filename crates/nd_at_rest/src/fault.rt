@@ -5,7 +5,7 @@ ghost use Rattle.nd_at_rest.specs.Faults.{code_of_rest};
 use nd_protocol::{NoMemory, Refusal};
 use nd_time::Code;
 
-/// Why `why_at_rest` returns nothing (this project's own rule).
+/// Why `why_at_rest` returns nothing.
 #[derive(Clone, Copy, Debug, Drop, PartialEq, Eq)]
 pub enum RestFault {
     /// The limit is 0 or above 1,000,000.

@@ -1,4 +1,4 @@
--- Breakpoints: the map of those that are set, and which of them hold of a cluster (this project's own rule).
+-- Breakpoints: the map of those that are set, and which of them hold of a cluster.
 use Rattle.std.specs.Prelude.{◌≡◌, ◌≢◌, ℕ, ◌<◌, ◌≤◌, Some, None}
 use Rattle.std.specs.Ordering.{nat_cmp}
 use Rattle.std.specs.FinMap as fin

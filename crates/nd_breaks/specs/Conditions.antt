@@ -1,5 +1,4 @@
--- Conditions: when an atom, a literal and a condition of several literals hold of a cluster (this project's own
--- rule).
+-- Conditions: when an atom, a literal and a condition of several literals hold of a cluster.
 use Rattle.std.specs.Prelude.{◌≡◌, ◌↔◌, ℕ, ◌<◌, ◌≤◌, ◌⊎◌, ℤ, pos, ◌≤ℤ◌, List, [], ◌∷◌, ◌++◌, length, All, Any, refl}
 use Rattle.std.proofs.Common.{inl, inr}
 use Rattle.std.specs.Coded.{Coded, code_by, coded×, coded⊎, coded_ℕ, coded_ℤ, coded_list}

@@ -1,4 +1,4 @@
--- The steps that a run could try, each with the answer of a plan (this project's own rule).
+-- The steps that a run could try, each with the answer of a plan.
 use Rattle.std.specs.Prelude.{◌≡◌, ◌↔◌, ◌<◌, ◌+◌, ◌-◌, ℕ, ℤ, Bool, true, cond, nat_eq, List, [], ◌∷◌, ◌++◌, length, map, take, Option, Some, None, IsTrue, All, Contains}
 use Rattle.std.specs.List.{flat_map, list_any, range_with_len}
 use Rattle.std.specs.FinMap as fin

@@ -1,4 +1,4 @@
--- The choice of a run's next step: the first enabled candidate, beginning with the turn's processor (this project's own rule).
+-- The choice of a run's next step: the first enabled candidate, beginning with the turn's processor.
 use Rattle.std.specs.Prelude.{◌≡◌, ◌⊎◌, ◌-◌, ◌%◌, ℕ, List, [], ◌∷◌, ◌++◌, length, take, drop, Option, Some, None, option_map, IfSome, All}
 use Rattle.std.specs.List.{range_with_len}
 use Rattle.nd_protocol.specs.State.{ClusterState}
@@ -24,7 +24,7 @@ candidates_from s turn only = candidates_on s only (from_turn (length s.processo
 abbrev pub turned_to : {X : Type 0} → ℕ → List X → List X
 turned_to j xs = drop j xs ++ take j xs
 
--- these steps, beginning with the place that the number `lot` has modulo their count
+-- these steps, starting at number `lot` modulo their count and wrapping around
 abbrev pub turned_by : {A : Type 0} → ℕ → List (Step A) → List (Step A)
 turned_by lot xs = turned_to (lot % length xs) xs
 

@@ -1,5 +1,4 @@
--- The moves of a state: the enabled candidates, and those feeds and releases that a question lets users make (this project's own
--- rule).
+-- The moves of a state: the enabled candidates, and those feeds and releases that a question lets users make.
 use Rattle.std.specs.Prelude.{◌≡◌, ◌⊎◌, ℕ, if◌then◌else◌, List, [], ◌∷◌, ◌++◌, length, map, None, All}
 use Rattle.std.specs.List.{flat_map, range_with_len}
 use Rattle.std.specs.FinMap as fin

@@ -1,5 +1,4 @@
--- Which candidate comes before which from a turn on, which candidates a state has, and which one a run without a seed chooses (this
--- project's own rule).
+-- Which candidate comes before which from a turn on, which candidates a state has, and which one a run without a seed chooses.
 use Rattle.std.specs.Prelude.{◌≡◌, ◌≢◌, ◌↔◌, ◌<◌, ◌⊎◌, ℕ, ◌+◌, ◌-◌, ◌%◌, List, [], ◌∷◌, length, Option, Some, None, All, Contains, IsTrue}
 use Rattle.std.specs.FinMap as fin
 use Rattle.std.specs.declared.cmp.Ordering.TheVariants.{Less}

@@ -1,4 +1,4 @@
--- The part of a cluster that steps change, saved without the graph (this project's own rule).
+-- The part of a cluster that steps change, saved without the graph.
 use Rattle.std.specs.Prelude.{◌≡◌, All}
 use Rattle.nd_graph.specs.Graph.{Dataflow}
 use Rattle.nd_view.specs.Kept.{IsFor}

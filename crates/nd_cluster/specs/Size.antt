@@ -1,4 +1,4 @@
--- How many entries a cluster's maps and queues have (this project's own rule).
+-- How many entries a cluster's maps and queues have.
 use Rattle.std.specs.Prelude.{◌≡◌, ℕ, ◌+◌, ◌<◌, List, length, sum_by, Option, MatchOption}
 use Rattle.std.specs.FinMap as fin
 use Rattle.nd_map.specs.Counts.{entries}

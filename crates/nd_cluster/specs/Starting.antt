@@ -1,4 +1,4 @@
--- Why a cluster does not start, and the number and the name of each error (this project's own rule).
+-- Why a cluster does not start, and the number and the name of each error.
 use Rattle.std.specs.Prelude.{ℕ, ◌<◌, ◌≤◌, List, sum_by, codes}
 use Rattle.nd_time.specs.Code.{Code, coded}
 use Rattle.nd_time.specs.Limits.{max_processors}

@@ -18,7 +18,7 @@ use std::alloc::Allocator;
 impl<A: Allocator + Copy> Cluster<A> {
     /// Returns the times that can still arrive at a location according to processor `q`'s view, by epoch and then by
     /// counters: the minimal ones of those into which walks to `location` turn the times of the pointstamps at which the view
-    /// is positive (this project's own rule; a probe's frontier in timely dataflow). The list is empty if there is no such
+    /// is positive (a probe's frontier in timely dataflow). The list is empty if there is no such
     /// location.
     ///
     /// The view has passed a time there exactly if none of them is at or before it, and none of them is at or before another.

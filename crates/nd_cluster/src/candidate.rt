@@ -59,7 +59,7 @@ impl<A: Allocator> CandidateList<A> {
     }
 }
 
-/// The candidates of a cluster (this project's own rule).
+/// The candidates of a cluster.
 #[derive(Drop)]
 pub struct Candidates<A: Allocator = Global> {
     /// The first 1,000 of them, or all if there are no more.

@@ -1,4 +1,4 @@
-//! The choice of the next step (this project's own rule).
+//! The choice of the next step.
 ghost use Rattle.std.specs.Prelude.{◌≤◌, ◌-◌, ◌<◌, ◌≡◌, ◌↔◌, IfOk, IfSome, IsNone, None, length, option_copied, option_map};
 ghost use Rattle.std.specs.List.{range_with_len};
 ghost use Rattle.nd_cluster.specs.Candidates.{AreComplete, candidates, candidates_among, candidates_if, candidates_of, candidates_on, may_run};
@@ -204,8 +204,8 @@ impl<A: Allocator + Copy> Cluster<A> {
         }
     }
 
-    /// Returns the record of the first enabled candidate, beginning with the place that `lot` has modulo their count, and
-    /// after the last candidate with the first. If processors are listed, the candidates of the others do not count.
+    /// Returns the record of the first enabled candidate, starting at candidate `lot` modulo their count
+    /// and wrapping around. If processors are listed, the candidates of the others do not count.
     ///
     /// There is none exactly if no candidate of these processors is enabled.
     pub fn drawn_planned<'a>(

@@ -79,7 +79,7 @@ impl<A: Allocator + Copy> Cluster<A> {
         Ok(Record { step, changes })
     }
 
-    /// Returns the record of a step, or why the step is refused (this project's own rule).
+    /// Returns the record of a step, or why the step is refused.
     ///
     /// Changes nothing. The refusal may be out of memory in place of one with a number of 13 or more, except for an empty
     /// part and an empty queue. If the cluster has the protocol invariant, nothing outstanding is strictly before a notice

@@ -16,7 +16,7 @@ use std::alloc::Allocator;
 impl<A: Allocator + Copy> Cluster<A> {
     /// Returns why processor `asked.q` does not consider everything before a pointstamp finished: the pointstamps on the
     /// frontier of its view that are before `asked.point`, each with all that is held there and all updates of it that the
-    /// processor has not received (this project's own rule, based on FORTE 2013). A notice at `asked.point` waits for what is
+    /// processor has not received (based on FORTE 2013). A notice at `asked.point` waits for what is
     /// strictly before it.
     ///
     /// There is none exactly if the view is positive at no pointstamp before `asked.point`. If the cluster has the protocol

@@ -1,4 +1,4 @@
-//! Why steps are refused: tests in the order of the refusals' numbers (this project's own rule).
+//! Why steps are refused: tests in the order of the refusals' numbers.
 ghost use Rattle.std.specs.Prelude.{◌≡◌, ◌≢◌, ◌↔◌, ◌<◌, IfOk, IfErr, OnOk, OnErr, IsTrue, Some, length};
 ghost use Rattle.std.specs.FinMap as fin;
 ghost use Rattle.nd_graph.specs.declared.op.Op.TheVariants as operator;

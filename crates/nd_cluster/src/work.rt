@@ -16,8 +16,8 @@ use nd_paths::Pointstamp;
 use nd_processor::ValueAt;
 use nd_protocol::{Batch, Times};
 use nd_steps::{
-    Come, Fed, Performer, Taken, feed_changes, notice_changes, ordered_flow, planned_changes,
-    post_changes, record_at, release_changes, take_changes, take_flow,
+    Consequence, Fed, Performer, Taken, feed_changes, notice_changes, ordered_flow,
+    planned_changes, post_changes, record_at, release_changes, take_changes, take_flow,
 };
 use std::alloc::Allocator;
 
@@ -26,7 +26,11 @@ use std::alloc::Allocator;
 pub(crate) enum Drafted<A: Allocator + Copy> {
     Each(Vec<Change, A>),
     // The consequence of processor p's take of a record: nothing else changes.
-    Flow { p: u32, gone: ValueAt, come: Come },
+    Flow {
+        p: u32,
+        gone: ValueAt,
+        come: Consequence,
+    },
 }
 
 impl<A: Allocator + Copy> Cluster<A> {

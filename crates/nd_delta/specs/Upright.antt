@@ -1,4 +1,4 @@
--- Upright changes (this project's own rule), for any order R of points.
+-- Upright changes, for any order R of points.
 use Rattle.std.specs.Prelude.{ℤ, pos, ◌<ℤ◌, ◌⊎◌}
 
 -- strictly before x there is a point at which f is negative, or one that is held

@@ -281,7 +281,7 @@ impl<A: Allocator> Delta<A> {
     }
 
     /// Returns the least pointstamp with a positive integer and no negative entry strictly before it; or
-    /// `None` if there is none (this project's own rule).
+    /// `None` if there is none.
     pub fn unsupported<B: Allocator>(&self, paths: &Paths<B>) -> Option<Pointstamp>
         ensures upright { IsNone result
             ↔ IsUpright (IsStrictlyBefore paths.now) (Contains []) (at self.now) }
@@ -292,7 +292,7 @@ impl<A: Allocator> Delta<A> {
     }
 
     /// Returns the least pointstamp with a positive integer and, strictly before it, neither a negative
-    /// entry nor a pointstamp in `held`; or `None` if there is none (this project's own rule).
+    /// entry nor a pointstamp in `held`; or `None` if there is none.
     pub fn unsupported_by<B: Allocator>(
         &self,
         paths: &Paths<B>,

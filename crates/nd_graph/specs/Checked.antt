@@ -1,4 +1,4 @@
--- Which graphs are rejected, and with which error (this project's own rule).
+-- Which graphs are rejected, and with which error.
 use Rattle.std.specs.Prelude.{◌≡◌, ℕ, ◌<◌, All, Bool, false, not, ◌==◌, ◌&&◌, ◌||◌, nat_lt, nat_le, List, [], ◌∷◌, ◌++◌, length, map, if◌then◌else◌, Option, Some, None, ok_or, option_map, option_and_then, Result, Ok, Err, slice_get}
 use Rattle.std.specs.Option.{option_map_or}
 use Rattle.std.specs.List.{list_any, position}

@@ -1,4 +1,4 @@
--- The errors of a graph, as replies report them (this project's own rule).
+-- The errors of a graph, as replies report them.
 use Rattle.std.specs.Prelude.{◌≡◌, ◌⊎◌, codes, Result, Ok, Err}
 use Rattle.nd_time.specs.Code.{Code, coded}
 use Rattle.nd_graph.specs.declared.fault.GraphFault.{GraphFault}

@@ -1,5 +1,5 @@
 -- Dataflow graphs: locations, their depths, and the arcs between them.
--- (Naiad, SOSP 2013, section 2.1; the arcs are this project's own rule.)
+-- (Naiad, SOSP 2013, section 2.1.)
 use Rattle.std.specs.Prelude.{◌≡◌, ℕ, ◌+◌, ◌-◌, ◌<◌, ◌≤◌, All, List, [], ◌∷◌, ◌++◌, length, map, slice_index, slice_get}
 use Rattle.std.specs.Option.{option_map_or}
 use Rattle.nd_time.specs.Limits.{max_depth, max_locations}

@@ -1,4 +1,4 @@
--- The names of vertices and edges (this project's own rule).
+-- The names of vertices and edges.
 use Rattle.std.specs.Prelude.{ℕ, Bool, ◌&&◌, List, length, nat_le}
 use Rattle.std.specs.List.{list_all}
 use Rattle.nd_time.specs.Limits.{max_name, least_of_name, greatest_of_name}

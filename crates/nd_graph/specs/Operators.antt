@@ -1,4 +1,4 @@
--- The facts of each operator, in one place (this project's own rule).
+-- The facts of each operator, in one place.
 use Rattle.std.specs.Prelude.{ℕ, Bool, true, false}
 use Rattle.nd_graph.specs.declared.op.Op.{Op}
 use Rattle.nd_graph.specs.declared.op.Op.TheVariants as op

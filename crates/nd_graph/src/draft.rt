@@ -47,8 +47,7 @@ impl<A: Allocator> Model for GraphDraft<A> {
 }
 
 impl<A: Allocator> GraphDraft<A> {
-    /// Reads a graph from a JSON value. Returns `Shape` if the value does not have the form of a graph (this project's own
-    /// rule); the only other error is `Memory`.
+    /// Reads a graph from a JSON value. Returns `Shape` if the value does not have the form of a graph; the only other error is `Memory`.
     #[tactic(auto, unfolding(crate::specs::Draft::draft_of))]
     pub fn from_value(alloc: A, value: &Value) -> Result<GraphDraft<A>, GraphFault>
     where

@@ -6,8 +6,7 @@ use nd_time::Code;
 use std::alloc::{AllocError, AllocFailed};
 use thiserror::Error;
 
-/// An error of a graph. Of several errors the one with the least number is returned (this project's own
-/// rule).
+/// An error of a graph. Of several errors the one with the least number is returned.
 #[derive(Clone, Copy, Debug, Drop, PartialEq, Eq, Error)]
 pub enum GraphFault {
     #[error("the value does not have a graph's form")]

@@ -57,7 +57,7 @@ impl Edge {
     }
 }
 
-/// One step that a time can take, from one location to the next (this project's own rule).
+/// One step that a time can take, from one location to the next.
 #[derive(Clone, Copy, Debug, Drop, PartialEq, Eq)]
 pub struct Arc {
     pub from: usize,

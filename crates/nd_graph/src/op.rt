@@ -4,7 +4,7 @@ ghost use Rattle.nd_graph.specs.Operators.{facts};
 ghost use Rattle.nd_graph.specs.Graph.{action_of};
 ghost use Rattle.nd_graph.specs.Checked.{ports as ports_of, is_input as is_fed};
 
-/// The operator of a vertex, over integers (this project's own rule).
+/// The operator of a vertex, over integers.
 #[derive(Clone, Copy, Debug, Drop, PartialEq, Eq)]
 pub enum Op {
     /// Receives values from outside, epoch by epoch.
@@ -54,7 +54,7 @@ pub enum Action {
     Feedback,
 }
 
-/// Which processor a record on an edge is sent to (this project's own rule).
+/// Which processor a record on an edge is sent to.
 #[derive(Clone, Copy, Debug, Drop, PartialEq, Eq)]
 pub enum Route {
     /// The processor that produced the record.

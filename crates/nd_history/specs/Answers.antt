@@ -1,4 +1,4 @@
--- What a search may return (this project's own rule).
+-- What a search may return.
 use Rattle.std.specs.Prelude.{◌≡◌, ℕ, ◌-◌, ◌<◌, ◌≤◌, List, length, map, min, slice_get, All, Option, Some, None}
 use Rattle.nd_time.specs.Limits.{max_workers}
 use Rattle.nd_breaks.specs.Conditions.{ConditionValue}

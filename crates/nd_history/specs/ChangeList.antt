@@ -1,4 +1,4 @@
--- What is listed of the changes of a view (this project's own rule).
+-- What is listed of the changes of a view.
 use Rattle.std.specs.Prelude.{◌≡◌, ◌↔◌, ◌<◌, List, length, take, IsTrue}
 use Rattle.nd_time.specs.Limits.{max_told}
 use Rattle.nd_timeline.specs.declared.changed.Changed.{Changed}

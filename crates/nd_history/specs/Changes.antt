@@ -1,4 +1,4 @@
--- The positions at which an entry changes (this project's own rule).
+-- The positions at which an entry changes.
 use Rattle.std.specs.Prelude.{ℕ, ◌+◌, ◌-◌, ℤ, Bool, not, List, map, filter, refl}
 use Rattle.std.specs.Coded.{Coded, code_by, coded×, coded_ℕ, coded_ℤ}
 use Rattle.std.specs.List.{range_with_len}

@@ -1,5 +1,4 @@
--- Which pieces the workers of a search claim: the numbers of the claim word, each drawn once (this project's
--- own rule).
+-- Which pieces the workers of a search claim: the numbers of the claim word, each drawn once.
 use Rattle.std.specs.Prelude.{◌≡◌, ℕ, ◌+◌, ◌==◌, nat_lt, cond, List, [], ◌∷◌}
 
 -- how often a number occurs in a list

@@ -1,4 +1,4 @@
--- What the kept step that leads to a position changes, and why no effect is returned (this project's own rule).
+-- What the kept step that leads to a position changes, and why no effect is returned.
 use Rattle.std.specs.Prelude.{◌≡◌, ◌⊎◌, ◌<◌, ◌≤◌, ℕ, ◌-◌, length, slice_get, Some}
 use Rattle.nd_time.specs.Code.{Code}
 use Rattle.nd_protocol.specs.State.{ClusterState}

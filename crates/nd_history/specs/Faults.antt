@@ -1,5 +1,4 @@
--- The number and the name with which a reply reports each error of a search, of a query for changes and of a query for turns
--- (this project's own rule).
+-- The number and the name with which a reply reports each error of a search, of a query for changes and of a query for turns.
 use Rattle.std.specs.Prelude.{codes}
 use Rattle.nd_time.specs.Code.{Code, coded}
 use Rattle.nd_protocol.specs.Refusals as refusals

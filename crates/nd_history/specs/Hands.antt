@@ -1,4 +1,4 @@
--- The rule of the claim word (this project's own rule).
+-- The rule of the claim word.
 use Rattle.std.specs.Prelude.{◌≡◌, ℕ, ◌+◌, ◌-◌, ◌^◌, ◌<◌, List, [], ◌∷◌, ◌++◌, length, slice_index}
 use Rattle.atomic_table.specs.Seated.{TableId}
 use Rattle.nd_history.specs.declared.hand.Hand.{Hand}

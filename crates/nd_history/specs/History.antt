@@ -1,5 +1,4 @@
--- *History*: where what is observed of the clusters of a timeline changes, and what is listed of that (this
--- project's own rule).
+-- *History*: where what is observed of the clusters of a timeline changes, and what is listed of that.
 use Rattle.std.specs.Prelude.{◌≡◌, ◌≢◌, ℕ, ◌+◌, ◌<◌, ◌≤◌, ◌⊎◌, ℤ, pos, List, [], ◌∷◌, ◌++◌, length, take, MatchBool}
 use Rattle.nd_time.specs.Limits.{max_told}
 use Rattle.nd_protocol.specs.State.{ClusterState}

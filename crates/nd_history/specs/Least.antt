@@ -1,4 +1,4 @@
--- *Least hit*: the least position of a kept list at which a condition holds (this project's own rule).
+-- *Least hit*: the least position of a kept list at which a condition holds.
 use Rattle.std.specs.Prelude.{ℕ, ◌+◌, ◌<◌, ◌≤◌, take, Option, Some, None}
 use Rattle.nd_protocol.specs.Steps.{after}
 use Rattle.nd_breaks.specs.Conditions.{ConditionValue, Holds}

@@ -1,4 +1,4 @@
--- The positions of a search, from lo to hi, divided into pieces (this project's own rule).
+-- The positions of a search, from lo to hi, divided into pieces.
 use Rattle.std.specs.Prelude.{ℕ, ◌+◌, ◌-◌, ◌*◌, ◌/◌, ◌≤◌, min}
 use Rattle.nd_time.specs.Limits.{max_kept, piece_length}
 

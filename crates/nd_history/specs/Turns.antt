@@ -1,5 +1,4 @@
--- *Turns*: the positions at which a condition begins or ceases to hold, and what is listed of them (this
--- project's own rule).
+-- *Turns*: the positions at which a condition begins or ceases to hold, and what is listed of them.
 use Rattle.std.specs.Prelude.{◌≡◌, ◌↔◌, ℕ, ◌-◌, ◌<◌, ◌≤◌, ◌⊎◌, List, length, slice_get, Contains, AllPairs, Option, Some, cond, IsTrue, MatchBool}
 use Rattle.nd_time.specs.Limits.{max_told}
 use Rattle.nd_timeline.specs.Timeline.{TimelineValue}

@@ -1,5 +1,4 @@
--- The changes of a processor's view over the kept steps of a timeline, and why none are listed (this project's
--- own rule).
+-- The changes of a processor's view over the kept steps of a timeline, and why none are listed.
 use Rattle.std.specs.Prelude.{ℕ, ◌<◌, ◌≤◌, ℤ, List, length, take}
 use Rattle.nd_paths.specs.declared.point.Pointstamp.{Pointstamp}
 use Rattle.nd_delta.specs.Delta.{at}

@@ -50,7 +50,7 @@ impl<A: Allocator> Changes<A> {
     }
 }
 
-/// What is listed of the changes in a range of positions (this project's own rule).
+/// What is listed of the changes in a range of positions.
 #[derive(Drop)]
 pub struct ChangeList<A: Allocator = Global> {
     /// The first 1,000 changes, or all if there are no more.

@@ -36,7 +36,7 @@ fn check<A: Allocator + Copy>(timeline: &Timeline<A>, lo: u64, hi: u64) -> Resul
 }
 
 /// Lists the turns of the condition above `lo` and up to `hi` in order: the positions at which it holds
-/// and did not hold one kept step before, or the other way round (this project's own rule).
+/// and did not hold one kept step before, or the other way round.
 ///
 /// At most 1,000 are listed. If there are more, `more` is true. The least position from `lo` to `hi` at
 /// which the condition holds, which `search` finds, is `lo` if the condition holds there, and otherwise

@@ -24,7 +24,7 @@ impl<A: Allocator + Copy> Drop for StepEffect<A> {
     }
 }
 
-/// Why `effect` returns nothing (this project's own rule).
+/// Why `effect` returns nothing.
 #[derive(Clone, Copy, Debug, Drop, PartialEq, Eq)]
 pub enum EffectFault {
     /// No kept step leads to the position.
@@ -57,7 +57,7 @@ impl EffectFault {
 }
 
 /// Returns the kept step that leads to position `i`, and what it changed: each map key and each queue whose
-/// value differs before and after the step, with both values (this project's own rule). The timeline does not
+/// value differs before and after the step, with both values. The timeline does not
 /// change.
 pub fn effect<A: Allocator + Copy>(
     alloc: A,

@@ -7,7 +7,7 @@ use nd_time::Code;
 use nd_timeline::Fault;
 use std::alloc::{AllocError, Allocator, Global};
 
-/// Why a search returns nothing (this project's own rule).
+/// Why a search returns nothing.
 #[derive(Drop)]
 pub enum SearchFault<A: Allocator = Global> {
     /// The first position is above the last.
@@ -55,7 +55,7 @@ impl<A: Allocator> SearchFault<A> {
     }
 }
 
-/// Why `changes` returns nothing (this project's own rule).
+/// Why `changes` returns nothing.
 #[derive(Clone, Copy, Debug, Drop, PartialEq, Eq)]
 pub enum ChangesFault {
     /// The cluster has no such processor.
@@ -93,7 +93,7 @@ impl ChangesFault {
     }
 }
 
-/// Why `turns` returns nothing (this project's own rule).
+/// Why `turns` returns nothing.
 #[derive(Clone, Copy, Debug, Drop, PartialEq, Eq)]
 pub enum TurnsFault {
     /// The first position is above the last.

@@ -2,7 +2,7 @@
 ghost use Rattle.std.specs.Prelude.{ℕ};
 
 /// A search calls its gate before each piece, and a run of several clients calls its gate before each
-/// command, so that a test can delay a worker or a client (this project's own rule).
+/// command, so that a test can delay a worker or a client.
 ///
 /// No result depends on the gate.
 pub trait Gate: Sync {

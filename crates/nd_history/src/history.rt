@@ -10,7 +10,7 @@ use nd_time::limits::MAX_TOLD;
 use nd_timeline::{Changed, Timeline, Walk};
 use std::alloc::{AllocError, Allocator};
 
-/// What is observed of a cluster, as a number (this project's own rule).
+/// What is observed of a cluster, as a number.
 pub(crate) trait Observation {
     ghost Shows: { Self → ClusterState → ℤ → Type 0 };
 

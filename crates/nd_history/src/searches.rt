@@ -57,7 +57,7 @@ fn claims<A: Allocator + Copy>(
 /// Returns the least position from `lo` to `hi`, both included, at which the condition holds.
 ///
 /// At most 64 workers are started, each in its own thread and with its own cluster that walks over
-/// the kept steps (this project's own rule). The workers claim pieces of 16 positions, one after the
+/// the kept steps. The workers claim pieces of 16 positions, one after the
 /// other, and call the gate before each. A worker stops if an allocation fails in its walk, and the
 /// others continue.
 pub fn search_in<A: Allocator + Copy + Send + Sync, R: Threads + Sync, G: Gate>(

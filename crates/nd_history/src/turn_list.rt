@@ -39,7 +39,7 @@ impl<A: Allocator> PositionList<A> {
     }
 }
 
-/// Where a condition begins and ceases to hold in a range of positions (this project's own rule).
+/// Where a condition begins and ceases to hold in a range of positions.
 #[derive(Drop)]
 pub struct Turns<A: Allocator = Global> {
     /// Whether the condition holds at the first position of the range.

@@ -53,8 +53,7 @@ fn check<A: Allocator + Copy>(
 }
 
 /// Lists the positions above `lo` and up to `hi` at which the entry of processor `q`'s view at the
-/// pointstamp differs from the entry one kept step before, in order, each with the entry there (this
-/// project's own rule).
+/// pointstamp differs from the entry one kept step before, in order, each with the entry there.
 ///
 /// At most 1,000 are listed. If there are more, `more` is true.
 pub fn changes<A: Allocator + Copy>(

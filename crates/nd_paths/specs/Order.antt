@@ -1,5 +1,5 @@
 -- Walks, accepted graphs, and the order of pointstamps.
--- (Naiad, SOSP 2013, sections 2.1 and 2.3; acceptance and the order of counters are this project's own rule.)
+-- (Naiad, SOSP 2013, sections 2.1 and 2.3.)
 use Rattle.std.specs.Prelude.{◌≡◌, ◌≢◌, ℕ, List, [], ◌∷◌, length, Some, Contains, slice_get}
 use Rattle.nd_time.specs.Time.{IsAtOrBefore, IsSmallerAtFirstDifference}
 use Rattle.nd_graph.specs.declared.graph.Arc.{Arc}

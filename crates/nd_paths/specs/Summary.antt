@@ -1,4 +1,4 @@
--- Path summaries: what walks do to loop counters, in one step (this project's own rule).
+-- Path summaries: what walks do to loop counters, in one step.
 use Rattle.std.specs.Prelude.{◌≡◌, ◌⊎◌, ℕ, ◌+◌, ◌-◌, ◌<◌, ◌≤◌, All, Contains, List, [], ◌∷◌, ◌++◌, length, take, cond, nat_lt, nat_eq, slice_index_or}
 use Rattle.nd_time.specs.Limits.{max_depth, max_counter}
 use Rattle.nd_time.specs.Time.{IsLexicallyAtMost}

@@ -10,7 +10,7 @@ use nd_graph::Graph;
 use std::alloc::{AllocError, Allocator};
 use thiserror::Error;
 
-/// Why a graph has no order (this project's own rule).
+/// Why a graph has no order.
 #[derive(Clone, Copy, Debug, PartialEq, Eq, Drop, Error)]
 pub enum PathFault {
     /// A closed, non-empty walk from this location fails to increase some time. No earlier location has

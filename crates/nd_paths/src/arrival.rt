@@ -65,7 +65,7 @@ impl ArrivalTime {
 
     /// Returns whether this time is at or before `other`. It is not if their depths differ.
     ///
-    /// Epochs compare as numbers and counters lexicographically (this project's own rule).
+    /// Epochs compare as numbers and counters lexicographically.
     pub fn at_or_before(&self, other: &ArrivalTime) -> bool
         ensures { IsTrue result ↔ IsAtOrBefore self.now other.now }
     {

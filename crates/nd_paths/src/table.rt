@@ -147,7 +147,7 @@ pub fn leads_among(row: &[Option<Summary>], location: usize, from: &[u32], to: &
     ensures { IsTrue result ↔ SomeLeads row.now location from.now to.now }
 {
     if to.is_empty() {
-        // A summary that leaves no counters keeps none, and leads there.
+        // At depth 0 a walk keeps no counter, so entry 0 decides.
         return look(row, location, 0).is_some();
     }
     // No summary keeps more counters than either time has.

@@ -1,5 +1,4 @@
--- When a step is enabled, and with which refusal it is refused otherwise: that of the least number whose condition holds (this
--- project's own rule).
+-- When a step is enabled, and with which refusal it is refused otherwise: that of the least number whose condition holds.
 use Rattle.std.specs.Prelude.{◌≡◌, ◌≢◌, ℕ, ◌<◌, ◌≤◌, ◌⊎◌, ℤ, true, false, List, [], ◌∷◌, length, All, Option, Some, None, unsigned_abs, FitsSigned}
 use Rattle.std.specs.Int.{w64}
 use Rattle.std.specs.FinMap as fin

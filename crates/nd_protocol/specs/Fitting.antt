@@ -1,4 +1,4 @@
--- When the keys of a cluster's maps fit its graph, and its numbers their limits (this project's own rule).
+-- When the keys of a cluster's maps fit its graph, and its numbers their limits.
 use Rattle.std.specs.Prelude.{◌≡◌, ◌≢◌, ◌<◌, ◌≤◌, ℕ, pos, List, All, length, Some, unsigned_abs}
 use Rattle.std.specs.FinMap as fin
 use Rattle.nd_time.specs.Limits.{max_count, max_processors, max_queue}

@@ -1,5 +1,4 @@
--- The protocol invariant, and what it means that a pointstamp is finished (FORTE 2013; upright changes are this project's own
--- rule).
+-- The protocol invariant, and what it means that a pointstamp is finished (FORTE 2013).
 use Rattle.std.specs.Prelude.{◌≡◌, ◌<◌, ◌≤◌, ℕ, ◌+◌, zero, suc, cond, ℤ, pos, ◌+ℤ◌, List, [], ◌∷◌, length, drop}
 use Rattle.nd_paths.specs.Order.{CouldResultIn, IsStrictlyBefore}
 use Rattle.nd_paths.specs.declared.point.Pointstamp.{Pointstamp}

@@ -1,4 +1,4 @@
--- Numbers in the ranges of their types: epochs, counters and the numbers of processors, and values (this project's own rule).
+-- Numbers in the ranges of their types: epochs, counters and the numbers of processors, and values.
 use Rattle.std.specs.Prelude.{ℕ, ℤ, ◌≤◌, ⊤, All as Each, FitsSigned, ◌∷◌, Option, Some, None, IfSome}
 use Rattle.std.specs.Int.{w64}
 use Rattle.nd_time.specs.Limits.{max_counter}

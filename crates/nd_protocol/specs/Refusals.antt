@@ -1,4 +1,4 @@
--- The number and the name with which a reply reports each refusal (this project's own rule).
+-- The number and the name with which a reply reports each refusal.
 use Rattle.std.specs.Prelude.{ℕ, codes}
 use Rattle.nd_time.specs.Code.{Code, coded}
 use Rattle.nd_protocol.specs.declared.refusal.Refusal.{Refusal}

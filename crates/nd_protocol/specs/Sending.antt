@@ -1,4 +1,4 @@
--- What a send changes: the records, key by key, and what its processor has to send (this project's own rule).
+-- What a send changes: the records, key by key, and what its processor has to send.
 use Rattle.std.specs.Prelude.{◌≡◌, ◌≢◌, ◌<◌, ◌≤◌, ◌+◌, ◌-◌, ◌+ℤ◌, ◌-ℤ◌, ℕ, ℤ, length, count_by, Some, slice_get}
 use Rattle.std.specs.Ordering.{int_eq}
 use Rattle.nd_map.specs.Counts.{at}

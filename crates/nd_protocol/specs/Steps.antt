@@ -36,7 +36,7 @@ abbrev pub destination : Route → ℕ → ℕ → ℤ → ℕ
 destination Local n p v = p
 destination Exchange n p v = unsigned_abs (int_rem_euclid v (pos n))
 
--- the same for a record that is sent to the processor dest, if one is named: a record on a local edge stays all the same
+-- the same for a record that is sent to the processor dest, if one is named: on a local edge the record stays, even if `dest` is given
 abbrev pub directed : Option ℕ → Route → ℕ → ℕ → ℤ → ℕ
 directed None route n p v = destination route n p v
 directed (Some dest) Local n p v = p

@@ -6,8 +6,7 @@ use nd_paths::Pointstamp;
 use nd_time::Code;
 use thiserror::Error;
 
-/// Why a step is refused. Refusals are tested in the order of their numbers, except that `Memory` comes last (this project's
-/// own rule).
+/// Why a step is refused. Refusals are tested in the order of their numbers, except that `Memory` comes last.
 #[derive(Debug, PartialEq, Eq, Drop, Error)]
 pub enum Refusal {
     #[error("there is no such processor")]

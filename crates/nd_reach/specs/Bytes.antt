@@ -1,4 +1,4 @@
--- Numbers, lists and pointstamps as bytes (this project's own rule). Each value has one form, and no form is the beginning of that
+-- Numbers, lists and pointstamps as bytes. Each value has one form, and no form is the beginning of that
 -- of another value.
 use Rattle.std.specs.Prelude.{ℕ, ◌+◌, ◌*◌, ◌^◌, ℤ, pos, negsuc, Bool, true, false, nat_lt, List, ◌∷◌, [], ◌++◌, length, replicate}
 use Rattle.std.specs.List.{flat_map}

@@ -1,4 +1,4 @@
--- The form of a state: bytes that tell it apart from every other state over the same graph (this project's own rule).
+-- The form of a state: bytes that tell it apart from every other state over the same graph.
 use Rattle.std.specs.Prelude.{◌≡◌, ℕ, zero, suc, ◌+◌, ℤ, nat_lt, if◌then◌else◌, List, [], ◌∷◌, ◌++◌, length, map, reverse, drop, slice_index_or}
 use Rattle.std.specs.List.{flat_map, enumerate_from}
 use Rattle.std.specs.Str.{bytes_eq}

@@ -1,4 +1,4 @@
--- The states that a search has found, by their forms, and how each was found (this project's own rule).
+-- The states that a search has found, by their forms, and how each was found.
 use Rattle.std.specs.Prelude.{◌≡◌, ℕ, Bool, true, false, ◌+◌, ◌<◌, ◌≤◌, List, [], ◌∷◌, ◌++◌, length, map, Option, Some, None, IfSome, slice_get}
 use Rattle.nd_protocol.specs.State.{ClusterState}
 use Rattle.nd_protocol.specs.Steps.{after}
@@ -88,7 +88,7 @@ pub record Wanted : Type 0 where
   pub when : ConditionValue
   pub limit : ℕ
 
--- a search that has gone on from the states before the place `at`
+-- a search that has expanded the states before the place `at`
 pub record HasSearched {A : Type 0} (q : Wanted) (forms : List (List ℕ)) (nodes : List (Node A)) (at : ℕ) : Type 0 where
   pub ways : List (List (Step A))
   pub found : AreFound q.start ways forms nodes
@@ -149,7 +149,7 @@ abbrev pub HasBegun : {A : Type 0} → Wanted → List (List ℕ) → List (Node
 HasBegun q forms nodes true = IsHit q forms nodes
 HasBegun q forms nodes false = HasSearched q forms nodes 0
 
--- the search goes on with the next state, and the walker is at the state that was gone on from; or the search has ended
+-- the search goes on with the next state, and the walker is at the state that was expanded; or the search has ended
 abbrev pub HasExpanded : {A : Type 0} → Wanted → List (List ℕ) → List (Node A) → ℕ → ClusterState → Option End → Type 0
 HasExpanded q forms nodes at t None = HasWalked q forms nodes (at + 1) at t
 HasExpanded q forms nodes at t (Some end) = HasEnded q forms nodes end

@@ -1,4 +1,4 @@
--- What a question for what can still happen is answered (this project's own rule).
+-- What a question for what can still happen is answered.
 use Rattle.std.specs.Prelude.{◌≡◌, ◌↔◌, ℕ, ◌+◌, ◌<◌, ◌≤◌, false, List, [], ◌∷◌, ◌++◌, length, All, IsTrue}
 use Rattle.nd_protocol.specs.State.{ClusterState}
 use Rattle.nd_protocol.specs.Steps.{after}

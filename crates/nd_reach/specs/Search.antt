@@ -1,4 +1,4 @@
--- A search breadth first, while it goes on: what holds of the ways that were found (this project's own rule).
+-- A search breadth first, while it goes on: what holds of the ways that were found.
 use Rattle.std.specs.Prelude.{◌≡◌, ◌≢◌, ◌⊎◌, ℕ, ◌<◌, ◌≤◌, List, [], ◌∷◌, ◌++◌, Some, slice_get}
 use Rattle.nd_protocol.specs.State.{ClusterState}
 use Rattle.nd_protocol.specs.Steps.{after}
@@ -19,7 +19,7 @@ pub record Covers {A : Type 0} (allowed : Allowed) (s : ClusterState) (ways : Li
   pub same : after s way ≡ after s xs
   pub most : IsAtMost allowed s way xs
 
--- the ways that were found, of which those before the place `at` were gone on from by each of their moves
+-- the ways that were found, of which those before the place `at` have been expanded by each of their moves
 pub record IsSearched {A : Type 0} (allowed : Allowed) (s : ClusterState) (ways : List (List (Step A))) (at : ℕ) : Type 0 where
   pub start : slice_get ways 0 ≡ Some []
   pub each : (k : ℕ) (w : List (Step A)) → slice_get ways k ≡ Some w → IsWay allowed s w
@@ -28,7 +28,7 @@ pub record IsSearched {A : Type 0} (allowed : Allowed) (s : ClusterState) (ways 
   pub expanded : (k : ℕ) (w : List (Step A)) (x : Step A) → k < at → slice_get ways k ≡ Some w → IsMove allowed (after s w) x → Covers allowed s ways (w ++ x ∷ [])
   pub ahead : (k i : ℕ) (w v : List (Step A)) (x : Step A) → at ≤ k → slice_get ways k ≡ Some w → slice_get ways i ≡ Some v → IsLess allowed s v (w ++ x ∷ [])
 
--- the same while the way at the place `at` is gone on from, by those of its moves that stand before the place `next`
+-- the same while the way at the place `at` is being expanded: its moves before the place `next` have been tried
 pub record IsGoing {A : Type 0} (allowed : Allowed) (s : ClusterState) (ways : List (List (Step A))) (at : ℕ) (w : List (Step A)) (moves : List (Step A)) (next : ℕ) : Type 0 where
   pub start : slice_get ways 0 ≡ Some []
   pub each : (k : ℕ) (w : List (Step A)) → slice_get ways k ≡ Some w → IsWay allowed s w

@@ -1,4 +1,4 @@
--- Ways: lists of moves from a state, and their order (this project's own rule).
+-- Ways: lists of moves from a state, and their order.
 use Rattle.std.specs.Prelude.{◌≡◌, ◌≢◌, ◌⊎◌, ℕ, ◌<◌, ◌≤◌, List, [], ◌∷◌, length, All, Any, AllPairs, Contains, Some, slice_get}
 use Rattle.nd_protocol.specs.State.{ClusterState}
 use Rattle.nd_protocol.specs.Steps.{stepped, after}

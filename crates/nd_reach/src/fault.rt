@@ -6,7 +6,7 @@ use nd_protocol::{NoMemory, Refusal};
 use nd_time::Code;
 use std::alloc::AllocError;
 
-/// Why `reach` returns nothing (this project's own rule).
+/// Why `reach` returns nothing.
 #[derive(Clone, Copy, Debug, Drop, PartialEq, Eq)]
 pub enum ReachFault {
     /// The limit is 0 or above 1,000,000.

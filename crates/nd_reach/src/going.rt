@@ -32,8 +32,9 @@ pub(crate) fn walker_at<A: Allocator + Copy>(
     Ok(walker)
 }
 
-// Walks from the state that was found at the place `from` to the one at the place `to`: undoes moves back to a state on the
-// ways to both, and makes others from there. Returns whether that takes at most so many moves; if not, the walker is anywhere.
+// Walks from the state that was found at the place `from` to the one at the place `to`: undoes moves back to a state on
+// the ways to both, and executes others from there. Returns whether that takes at most `most` moves; otherwise the walker's
+// state is unspecified.
 pub(crate) fn walk<A: Allocator + Copy>(
     nodes: &[Node<A>],
     walker: &mut Cluster<A>,

@@ -53,7 +53,7 @@ impl<A: Allocator> Steps<A> {
     }
 }
 
-/// What can still happen (this project's own rule).
+/// What can still happen.
 #[derive(Drop)]
 pub enum Reached<A: Allocator = Global> {
     /// The steps of the least way to the first state at which the condition holds.

@@ -45,7 +45,7 @@ pub(crate) struct Question<'a, A: Allocator + Copy> {
 }
 
 impl<'a, A: Allocator + Copy> Question<'a, A> {
-    // Returns what is saved at a state that so many moves lead to from where a walk begins; none if these are few.
+    // Returns a saved copy of the state if at least `MOST_MOVES` moves have passed since the last one.
     fn saved(&self, walker: &Cluster<A>, moves: u32) -> Result<Option<Box<Saved<A>, A>>, AllocError>
         ensures { IfOk result (λ o. IfSome o (λ b. IsSaved walker.now b.value)) }
     {

@@ -1,4 +1,4 @@
--- The order of moves does not matter: the theorems of states at rest, as statements (this project's own rule).
+-- The order of moves does not matter: the theorems of states at rest, as statements.
 use Rattle.std.specs.Prelude.{◌≡◌, ◌≢◌, ◌<◌, ◌≤◌, ◌+◌, ◌*◌, ⊤, ℕ, List, [], All, length, sum_by, count_by, Bool, true, false, ◌∷◌}
 use Rattle.nd_graph.specs.Graph.{Dataflow, op_at}
 use Rattle.nd_graph.specs.Operators.{facts}

@@ -1,4 +1,4 @@
--- Moves: the steps that a cluster executes with no user, and the lists of them (this project's own rule).
+-- Moves: the steps that a cluster executes with no user, and the lists of them.
 use Rattle.std.specs.Prelude.{ℕ, ◌+◌, List, [], ◌∷◌, ⊤}
 use Rattle.nd_protocol.specs.State.{ClusterState}
 use Rattle.nd_protocol.specs.Steps.{stepped}

@@ -1,4 +1,4 @@
--- States at rest: nothing is left to do but to wait for users (this project's own rule).
+-- States at rest: nothing is left to do but to wait for users.
 use Rattle.std.specs.Prelude.{◌≡◌, ◌⊎◌, ℕ, Bool, true, false, [], Some}
 use Rattle.std.specs.FinMap as fin
 use Rattle.nd_map.specs.Counts.{at}

@@ -1,4 +1,4 @@
--- How a session ends: each client's receipts are compared with the log (this project's own rule).
+-- How a session ends: each client's receipts are compared with the log.
 use Rattle.std.specs.Prelude.{◌≡◌, ◌≢◌, ℕ, ◌<◌, ◌⊎◌, ◌==◌, List, length, filter, slice_get, Some}
 use Rattle.nd_session.specs.declared.receipt.Receipt.{Receipt}
 use Rattle.nd_session.specs.declared.close.CloseWhy.{CloseWhy}

@@ -1,4 +1,4 @@
--- The number and the name of each error of a session, and when it is returned (this project's own rule).
+-- The number and the name of each error of a session, and when it is returned.
 use Rattle.std.specs.Prelude.{◌≡◌, ℕ, ◌<◌, ◌≤◌, ◌⊎◌, List, length, codes}
 use Rattle.nd_time.specs.Code.{Code, coded}
 use Rattle.nd_time.specs.Limits.{max_log, max_clients}

@@ -1,4 +1,4 @@
--- The log of a session: which logs are legal (this project's own rule).
+-- The log of a session: which logs are legal.
 use Rattle.std.specs.Prelude.{◌≡◌, ℕ, ◌<◌, ◌≤◌, ◌==◌, List, [], ◌∷◌, length, take, count_by, slice_get, Some}
 use Rattle.nd_time.specs.Limits.{max_processors}
 use Rattle.nd_graph.specs.Graph.{Dataflow}

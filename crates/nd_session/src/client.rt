@@ -6,7 +6,7 @@ use crate::Receipt;
 use std::alloc::{AllocError, Allocator, Global};
 use std::marker::Model;
 
-/// A client of a session: its number, and its receipts in order (this project's own rule).
+/// A client of a session: its number, and its receipts in order.
 pub struct Client<A: Allocator + Copy = Global> {
     pub(crate) number: u64,
     pub(crate) receipts: Vec<Receipt<A>, A>,

@@ -6,7 +6,7 @@ use crate::Receipt;
 use nd_time::Code;
 use std::alloc::{AllocError, Allocator, Global};
 
-/// Why a session refuses a call (this project's own rule).
+/// Why a session refuses a call.
 #[derive(Drop)]
 pub enum SessionFault<A: Allocator = Global> {
     /// The client's number was not given out here, or the log does not have its last receipt.

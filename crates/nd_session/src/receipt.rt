@@ -5,7 +5,7 @@ use nd_timeline::{Command, Reply};
 use std::alloc::{AllocError, Allocator, Global};
 
 /// A command that was answered, and the reply: an entry of the log, of which its client also gets a
-/// copy (this project's own rule).
+/// copy.
 #[derive(Drop)]
 pub struct Receipt<A: Allocator = Global> {
     /// The entry's position in the log, counted from 0.

@@ -11,7 +11,7 @@ use nd_timeline::{Command, Snapshot};
 use std::alloc::{Allocator, Global};
 use std::sync::{Mutex, Wait};
 
-/// A `State` that many threads drive, each as a client, through one lock (this project's own rule).
+/// A `State` that many threads drive, each as a client, through one lock.
 #[derive(Drop)]
 pub struct Session<A: Allocator + Copy = Global> {
     lock: Mutex<Shared<A>>,

@@ -19,7 +19,7 @@ use nd_timeline::{Command, Machine, Reply, Snapshot, Timeline, moves_keep_timeli
 use std::alloc::{AllocError, Allocator, Global};
 use std::marker::Model;
 
-/// A debugger machine with the log of the commands that it has answered (this project's own rule).
+/// A debugger machine with the log of the commands that it has answered.
 pub struct State<A: Allocator + Copy = Global> {
     machine: Machine<A>,
     log: Vec<Receipt<A>, A>,

@@ -1,4 +1,4 @@
--- The value of a state determines the state (this project's own rule).
+-- The value of a state determines the state.
 use Rattle.std.specs.Prelude.{◌≡◌, false}
 use Rattle.nd_graph.specs.Graph.{names}
 use Rattle.nd_graph.specs.Checked.{has_double}

@@ -1,4 +1,4 @@
--- A step as the object of its command line (this project's own rule).
+-- A step as the object of its command line.
 use Rattle.std.specs.Prelude.{ℕ, ℤ, Bool, true, false, List, map, codes, Option, Some, None}
 use Rattle.std.specs.declared.alloc.Global.{Global}
 use Rattle.serde_json.specs.Data.{Data, boolean, string, object, Members, no_members, member}

@@ -17,15 +17,15 @@ use Rattle.nd_steps.specs.Orders.{StayWithin, IsOrderedFlow}
 use Rattle.nd_steps.specs.Flows.{arriving, come_changes, come_key, flow_changes}
 use Rattle.nd_steps.specs.declared.change.Change.{Change}
 use Rattle.nd_steps.specs.declared.slot.Slot.TheVariants.{Records, Sink, Unsent}
-use Rattle.nd_steps.specs.declared.come.Come.{Come}
-use Rattle.nd_steps.specs.declared.come.Come.TheVariants.{Nothing, Record, Count}
+use Rattle.nd_steps.specs.declared.consequence.Consequence.{Consequence}
+use Rattle.nd_steps.specs.declared.consequence.Consequence.TheVariants.{Nothing, Record, Count}
 use Rattle.nd_steps.proofs.EachLemmas.{each_at, gain_alone}
 use Rattle.nd_steps.proofs.PlansLemmas.{after_is, planned_so, reaches_moved}
 use Rattle.nd_steps.proofs.ReachesLemmas.{few_enough, little_enough}
 
 -- ---- any order reaches the same state
 
-same_changes : (p : ℕ) (gone : ValueAt) (come : Come) (late : Bool) → IsPermutation (come_changes p gone come) (flow_changes p gone (record { come = come; late = late }))
+same_changes : (p : ℕ) (gone : ValueAt) (come : Consequence) (late : Bool) → IsPermutation (come_changes p gone come) (flow_changes p gone (record { come = come; late = late }))
 same_changes p gone come true =
     let goes : List Change = at_key p (Records gone) (negsuc 0) ∷ [] in
     let unsent : List Change = at_key p (Unsent gone.point) (negsuc 0) ∷ [] in
@@ -34,7 +34,7 @@ same_changes p gone come true =
     (IsPermutation-append_right (arriving p gone come) (goes ++ unsent) (unsent ++ goes) (IsPermutation-append_comm goes unsent))
 same_changes p gone come false = IsPermutation-append_comm (at_key p (Records gone) (negsuc 0) ∷ []) (at_key p (Unsent gone.point) (negsuc 0) ∷ arriving p gone come)
 
-reached : (ps : List ProcessorState) (s t : ClusterState) (p : ℕ) (gone : ValueAt) (come : Come) (late : Bool)
+reached : (ps : List ProcessorState) (s t : ClusterState) (p : ℕ) (gone : ValueAt) (come : Consequence) (late : Bool)
     → ReachesIn ps s t (come_changes p gone come) → ReachesIn ps s t (flow_changes p gone (record { come = come; late = late }))
 reached ps s t p gone come late h = (h.0, reaches_moved s t (come_changes p gone come) _ h.1 (same_changes p gone come late))
 
@@ -62,7 +62,7 @@ one_more x n e z = absurd (omega (arith, ints, e, z))
 last_of : (x n : ℤ) → n ≢ pos 0 → x +ℤ n ≡ pos 0 → x ≢ pos 0
 last_of x n some e z = some (omega (arith, ints, e, z))
 
-leads_late : (s t : ClusterState) (p : ℕ) (gone : ValueAt) (come : Come) → Reaches s t (flow_changes p gone (record { come = come; late = true }))
+leads_late : (s t : ClusterState) (p : ℕ) (gone : ValueAt) (come : Consequence) → Reaches s t (flow_changes p gone (record { come = come; late = true }))
     → Each (CountStays s.processors) (flow_changes p gone (record { come = come; late = true })) → Each (EntryStays s.processors) (flow_changes p gone (record { come = come; late = true }))
     → Finds s (at_key p (Records gone) (negsuc 0)) → Finds s (at_key p (Unsent gone.point) (negsuc 0)) → LeadsTo s t (flow_changes p gone (record { come = come; late = true }))
 leads_late s t p gone Nothing h counts entries goes unsent = leads_split s t [] (at_key p (Unsent gone.point) (negsuc 0) ∷ at_key p (Records gone) (negsuc 0) ∷ []) h counts entries tt (unsent, (goes, tt))
@@ -79,7 +79,7 @@ leads_late s t p gone (Record action q edge value) h counts entries goes unsent 
       | inr some ↦ leads_split s t (comes ∷ sent ∷ []) rest h counts entries (one_more _ _ refl, (some, tt)) (unsent, (goes, tt))
     ]
 
-leads_early : (s t : ClusterState) (p : ℕ) (gone : ValueAt) (come : Come) → Reaches s t (flow_changes p gone (record { come = come; late = false }))
+leads_early : (s t : ClusterState) (p : ℕ) (gone : ValueAt) (come : Consequence) → Reaches s t (flow_changes p gone (record { come = come; late = false }))
     → Each (CountStays s.processors) (flow_changes p gone (record { come = come; late = false })) → Each (EntryStays s.processors) (flow_changes p gone (record { come = come; late = false }))
     → Finds s (at_key p (Records gone) (negsuc 0)) → leaves s (at_key p (Unsent gone.point) (negsuc 0)) → LeadsTo s t (flow_changes p gone (record { come = come; late = false }))
 leads_early s t p gone Nothing h counts entries goes unsent = leads_split s t (at_key p (Unsent gone.point) (negsuc 0) ∷ []) (at_key p (Records gone) (negsuc 0) ∷ []) h counts entries (unsent, tt) (goes, tt)
@@ -98,7 +98,7 @@ leads_early s t p gone (Record action q edge value) h counts entries goes unsent
     ]
 
 -- the record that is taken is there
-record_there : (s t : ClusterState) (p : ℕ) (gone : ValueAt) (come : Come) → Reaches s t (come_changes p gone come) → Finds s (at_key p (Records gone) (negsuc 0))
+record_there : (s t : ClusterState) (p : ℕ) (gone : ValueAt) (come : Consequence) → Reaches s t (come_changes p gone come) → Finds s (at_key p (Records gone) (negsuc 0))
 record_there s t p gone come h =
     let goes : Change = at_key p (Records gone) (negsuc 0) in
     let then : standing t (place_of goes) ≡ standing s (place_of goes) +ℤ negsuc 0
@@ -106,14 +106,14 @@ record_there s t p gone come h =
     one_less (standing s (place_of goes)) (standing t (place_of goes)) _ then refl
 
 -- the same changes, with the taken record's pointstamp before or after what arrives
-each_late : (P : Change → Type 0) (p : ℕ) (gone : ValueAt) (come : Come) → Each P (flow_changes p gone (record { come = come; late = false })) → Each P (flow_changes p gone (record { come = come; late = true }))
+each_late : (P : Change → Type 0) (p : ℕ) (gone : ValueAt) (come : Consequence) → Each P (flow_changes p gone (record { come = come; late = false })) → Each P (flow_changes p gone (record { come = come; late = true }))
 each_late P p gone Nothing h = h
 each_late P p gone (Record action q edge value) h = (h.1.0, (h.1.1.0, (h.0, h.1.1.1)))
 each_late P p gone (Count vertex) h = (h.1.0, (h.0, h.1.1))
 
 -- ---- the order of a flow
 
-module _ (ps : List ProcessorState) (p : ℕ) (gone : ValueAt) (come : Come) where
+module _ (ps : List ProcessorState) (p : ℕ) (gone : ValueAt) (come : Consequence) where
   abbrev pub early : List Change
   early = flow_changes p gone (record { come = come; late = false })
 

@@ -33,8 +33,8 @@ use Rattle.nd_steps.specs.Flows.{past_action, come_key, come_changes}
 use Rattle.nd_steps.specs.Onward.{leaving, ComesBy}
 use Rattle.nd_steps.specs.declared.change.Change.{Change}
 use Rattle.nd_steps.specs.declared.slot.Slot.TheVariants.{Records, Sink, Unsent}
-use Rattle.nd_steps.specs.declared.come.Come.{Come}
-use Rattle.nd_steps.specs.declared.come.Come.TheVariants.{Nothing, Record, Count}
+use Rattle.nd_steps.specs.declared.consequence.Consequence.{Consequence}
+use Rattle.nd_steps.specs.declared.consequence.Consequence.TheVariants.{Nothing, Record, Count}
 use Rattle.nd_steps.proofs.Takes.{taken_leads}
 
 -- ---- the one edge that leaves a port
@@ -143,7 +143,7 @@ module _ {A : Type 0} (s : ClusterState) (g : Dataflow) (n p vertex : ℕ) (has 
       (once_before (at_key p (Unsent k.point) (negsuc 0)) (at_key p (Sink (record { vertex = vertex; value = k.value })) (pos 1) ∷ []) refl (once_one (at_key p (Sink (record { vertex = vertex; value = k.value })) (pos 1)))))
       ((λ e. cc), ((λ e. cc), ((λ e. cc), tt)))
 
-  pub one_leads : effect.sink ≡ false → (e : Emission) → effect.emits.items ≡ e ∷ [] → (come : Come) → ComesBy g n p vertex k e come
+  pub one_leads : effect.sink ≡ false → (e : Emission) → effect.emits.items ≡ e ∷ [] → (come : Consequence) → ComesBy g n p vertex k e come
       → Leads {A = A} s (Take p k.point.location k.point.time k.value) (come_changes p k come)
   one_leads sink e emits come by state free =
       let o : Op = op_at g vertex in
@@ -154,7 +154,7 @@ module _ {A : Type 0} (s : ClusterState) (g : Dataflow) (n p vertex : ℕ) (has 
       let deep : length (acted (action_of o) t.counters) ≤ max_depth = subst (λ (u : Time). length u.counters ≤ max_depth) emitted by.deep in
       let rises : action_of o ≡ action.Feedback → last_of t.counters < max_counter = λ f. rising (ap (λ v. op_at s.graph v) (sym so.goes) ∙ here ∙ feeds_back o f) free in
       let time : e.time ≡ past_action (action_of o) t = emitted ∙ past_is (action_of o) t (λ f. room (ap (λ a. acted a t.counters) f) deep) rises in
-      let one : Come = Record (action_of o) by.to by.edge e.value in
+      let one : Consequence = Record (action_of o) by.to by.edge e.value in
       let key : ValueAt = come_key k one in
       let a : Change = at_key p (Records k) (negsuc 0) in
       let b : Change = at_key p (Unsent k.point) (negsuc 0) in

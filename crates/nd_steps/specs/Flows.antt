@@ -11,8 +11,8 @@ use Rattle.nd_protocol.specs.declared.step.Step.TheVariants.{Feed, Take, Notice,
 use Rattle.nd_steps.specs.Changes.{at_key}
 use Rattle.nd_steps.specs.declared.change.Change.{Change}
 use Rattle.nd_steps.specs.declared.slot.Slot.TheVariants.{Records, Sink, Unsent}
-use Rattle.nd_steps.specs.declared.come.Come.{Come}
-use Rattle.nd_steps.specs.declared.come.Come.TheVariants.{Nothing, Record, Count}
+use Rattle.nd_steps.specs.declared.consequence.Consequence.{Consequence}
+use Rattle.nd_steps.specs.declared.consequence.Consequence.TheVariants.{Nothing, Record, Count}
 use Rattle.nd_steps.specs.declared.flow.Flow.{Flow}
 
 -- the time after an action; an ingress at the limit of depth, or a feedback at the limit of a counter, leaves the time as it is
@@ -23,23 +23,23 @@ past_action Egress t = record { epoch = t.epoch; counters = egress_of t.counters
 past_action Feedback t = if nat_lt (last_of t.counters) max_counter then record { epoch = t.epoch; counters = feedback_of t.counters } else t
 
 -- the record that arrives for the one that is taken, at the time after the action; the taken record itself if none arrives
-abbrev pub come_key : ValueAt → Come → ValueAt
+abbrev pub come_key : ValueAt → Consequence → ValueAt
 come_key gone Nothing = gone
 come_key gone (Record action q edge value) = record_key edge (past_action action gone.point.time) value
 come_key gone (Count vertex) = gone
 
 -- the changes of what arrives when processor p takes the record `gone`, where `key` is the record that arrives, if one does
-abbrev pub arriving_as : ℕ → ValueAt → ValueAt → Come → List Change
+abbrev pub arriving_as : ℕ → ValueAt → ValueAt → Consequence → List Change
 arriving_as p gone key Nothing = []
 arriving_as p gone key (Record action q edge value) = at_key q (Records key) (pos 1) ∷ at_key p (Unsent key.point) (pos 1) ∷ []
 arriving_as p gone key (Count vertex) = at_key p (Sink (record { vertex = vertex; value = gone.value })) (pos 1) ∷ []
 
 -- the changes of what arrives when processor p takes the record `gone`
-abbrev pub arriving : ℕ → ValueAt → Come → List Change
+abbrev pub arriving : ℕ → ValueAt → Consequence → List Change
 arriving p gone come = arriving_as p gone (come_key gone come) come
 
 -- the changes of a take by processor p with this consequence, in a fixed order
-abbrev pub come_changes : ℕ → ValueAt → Come → List Change
+abbrev pub come_changes : ℕ → ValueAt → Consequence → List Change
 come_changes p gone come = at_key p (Records gone) (negsuc 0) ∷ at_key p (Unsent gone.point) (negsuc 0) ∷ arriving p gone come
 
 -- the changes of a take in the order in which they are applied; `comes` are those of what arrives

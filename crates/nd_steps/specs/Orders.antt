@@ -10,7 +10,7 @@ use Rattle.nd_steps.specs.Plans.{Each, ReachesIn, LeadsTo}
 use Rattle.nd_steps.specs.Limits.{CountStays, EntryStays, LimitFails}
 use Rattle.nd_steps.specs.Flows.{come_changes, flow_changes}
 use Rattle.nd_steps.specs.declared.change.Change.{Change}
-use Rattle.nd_steps.specs.declared.come.Come.{Come}
+use Rattle.nd_steps.specs.declared.consequence.Consequence.{Consequence}
 use Rattle.nd_steps.specs.declared.flow.Flow.{Flow}
 
 -- ---- what is read about changes
@@ -48,5 +48,5 @@ abbrev pub PassLimit : List ProcessorState → List Change → Refusal → Type 
 PassLimit processors all r = (s t : ClusterState) → ReachesIn processors s t all → LimitFails t r
 
 -- the flow f has the changes of processor p's take with this consequence in such an order
-abbrev pub IsOrderedFlow : List ProcessorState → ℕ → ValueAt → Come → Flow → Type 0
+abbrev pub IsOrderedFlow : List ProcessorState → ℕ → ValueAt → Consequence → Flow → Type 0
 IsOrderedFlow processors p gone come f = AreOrdered processors (come_changes p gone come) (flow_changes p gone f)

@@ -16,8 +16,8 @@ use Rattle.nd_steps.specs.Drafts.{Has, Leads, TakesSo, NoticesSo, ReleasesSo, ar
 use Rattle.nd_steps.specs.Flows.{come_changes}
 use Rattle.nd_steps.specs.Onward.{ComesBy}
 use Rattle.nd_steps.specs.declared.change.Change.{Change}
-use Rattle.nd_steps.specs.declared.come.Come.{Come}
-use Rattle.nd_steps.specs.declared.come.Come.TheVariants.{Record}
+use Rattle.nd_steps.specs.declared.consequence.Consequence.{Consequence}
+use Rattle.nd_steps.specs.declared.consequence.Consequence.TheVariants.{Record}
 use Rattle.nd_steps.specs.declared.draft.Draft.{Draft}
 use Rattle.nd_steps.specs.declared.emit.Performer.{Performer}
 use Rattle.nd_steps.specs.declared.feed.Fed.{Fed}
@@ -86,15 +86,15 @@ PostLeads {A} by batch cs = (s : ClusterState) → Has by.graph.now by.n s → L
 -- ---- the consequence of a take
 
 -- the consequence that is one record: of the emission e, at the time after the action, on the edge with this location and route
-abbrev pub coming : {B : Type 0} → Performer B → Action → ℕ → Route → Emission → Come
+abbrev pub coming : {B : Type 0} → Performer B → Action → ℕ → Route → Emission → Consequence
 coming by action edge route e = Record action (destination route by.n by.p e.value) edge e.value
 
 -- `come` is the consequence of taking the record `gone`, from the one emission e of the vertex
-abbrev pub ComesFor : {B : Type 0} → Performer B → ValueAt → Emission → Come → Type 0
+abbrev pub ComesFor : {B : Type 0} → Performer B → ValueAt → Emission → Consequence → Type 0
 ComesFor by gone e come = ComesBy by.graph.now by.n by.p by.vertex gone e come
 
 -- the changes of the take are those that remove its record, and those of this consequence
-abbrev pub FlowLeads : {A B : Type 0} → Performer B → Taken A → Come → Type 0
+abbrev pub FlowLeads : {A B : Type 0} → Performer B → Taken A → Consequence → Type 0
 FlowLeads by taken come = TakeLeads by taken (come_changes by.p taken.key.now come)
 
 -- the emission e makes one record, on another edge than the record that is taken

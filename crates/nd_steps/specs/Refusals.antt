@@ -1,4 +1,4 @@
--- Why a broadcast or a receive is refused, in terms of the parts of a cluster that it uses (this project's own rule).
+-- Why a broadcast or a receive is refused, in terms of the parts of a cluster that it uses.
 use Rattle.std.specs.Prelude.{◌≡◌, ◌≢◌, Bool, List, [], ◌++◌, Some, filter, slice_get}
 use Rattle.std.specs.FinMap as fin
 use Rattle.nd_graph.specs.Graph.{Dataflow, op_at}

@@ -43,7 +43,7 @@ pub(crate) fn destination(route: Route, n: u32, p: u32, value: i64) -> u32
     }
 }
 
-// Returns the same for a record that goes to the processor `dest`, if one is named: on a local edge it stays all the same.
+// Returns the same for a record that goes to the processor `dest`, if one is named: on a local edge the record stays, even if `dest` is given.
 fn directed(dest: Option<u32>, route: Route, n: u32, p: u32, value: i64) -> u32
     requires { p < n }
     ensures { result ≡ directed_to dest route n p value }

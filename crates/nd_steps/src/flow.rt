@@ -8,7 +8,7 @@ ghost use Rattle.nd_steps.specs.Keyed.{comes_in, taken_in};
 ghost use Rattle.nd_steps.specs.Borrowed.{change_of};
 
 use crate::change::ChangeRef;
-use crate::come::Come;
+use crate::consequence::Consequence;
 use crate::keyed::Keyed;
 use crate::listing::{ChangeAt, Listing};
 use crate::order::within;
@@ -22,7 +22,7 @@ use std::alloc::Allocator;
 /// The part of a take's changes that the step doesn't determine: the consequence, and the order of the changes.
 #[derive(Clone, Copy, Debug, PartialEq, Eq, Drop)]
 pub struct Flow {
-    pub come: Come,
+    pub come: Consequence,
     /// Whether the record's pointstamp is removed from what is unsent after everything else was added.
     pub late: bool,
 }
@@ -52,9 +52,9 @@ impl TakeChanges {
         ensures few { result ≤ 2 }
     {
         match self.flow.come {
-            Come::Nothing => 0,
-            Come::Record { .. } => 2,
-            Come::Count { .. } => 1,
+            Consequence::Nothing => 0,
+            Consequence::Record { .. } => 2,
+            Consequence::Count { .. } => 1,
         }
     }
 
@@ -64,10 +64,10 @@ impl TakeChanges {
         ensures { change_of result ≡ slice_index_or (comes_in self.now) i (change_of result) }
     {
         let (p, key) = match self.flow.come {
-            Come::Nothing => unreachable!(),
-            Come::Record { p, .. } if i == 0 => (p, KeyRef::Records(&self.key)),
-            Come::Record { .. } => (self.p, KeyRef::Unsent(&self.key.point)),
-            Come::Count { vertex } => {
+            Consequence::Nothing => unreachable!(),
+            Consequence::Record { p, .. } if i == 0 => (p, KeyRef::Records(&self.key)),
+            Consequence::Record { .. } => (self.p, KeyRef::Unsent(&self.key.point)),
+            Consequence::Count { vertex } => {
                 let value = self.gone.value;
                 (self.p, KeyRef::Sink(SinkKey { vertex, value }))
             }
@@ -173,13 +173,12 @@ fn read_all<A: Allocator + Copy>(
 }
 
 /// Returns the flow of processor `p`'s take of a record with this consequence, in an order in which everything is added before
-/// anything is removed; or the limit because of which it is refused: that of counts before that of entries (this project's own
-/// rule).
+/// anything is removed; or the limit because of which it is refused: that of counts before that of entries.
 pub fn ordered_flow<A: Allocator + Copy>(
     processors: &[Processor<A>],
     p: u32,
     gone: &ValueAt,
-    come: Come,
+    come: Consequence,
 ) -> Result<Flow, Refusal>
     requires { CanReach processors.now (come_changes p gone.now come) }
     ensures ok { IfOk result (IsOrderedFlow processors.now p gone.now come) }

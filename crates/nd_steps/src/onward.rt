@@ -7,7 +7,7 @@ ghost use Rattle.nd_steps.specs.Flows.{come_key};
 ghost use Rattle.nd_steps.specs.Onward.{leaving};
 ghost use Rattle.nd_steps.specs.Performers.{coming, ComesFor, PassesOn, FlowLeads, IsPlainTake};
 
-use crate::come::Come;
+use crate::consequence::Consequence;
 use crate::emit::{destination, first_edge};
 use crate::operator::op_at;
 use crate::{Performer, Taken};
@@ -51,10 +51,10 @@ fn is_at(a: &Pointstamp, b: &Pointstamp) -> bool
 }
 
 // Returns whether what arrives for `gone` has the pointstamp of `gone`. A record on another edge needs no key.
-fn comes_back(come: &Come, gone: &ValueAt) -> bool
+fn comes_back(come: &Consequence, gone: &ValueAt) -> bool
     ensures { result ≡ eq_by_cmp point_cmp (come_key gone.now come.now).point gone.now.point }
 {
-    if let Come::Record { edge, .. } = come {
+    if let Consequence::Record { edge, .. } = come {
         if *edge as usize != gone.point.location {
             return false;
         }
@@ -69,11 +69,11 @@ fn record_on<B: Allocator>(
     action: Action,
     edge: u32,
     route: Route,
-) -> Come
+) -> Consequence
     requires { by.now.p < by.now.n }
     ensures { result ≡ coming by.now action edge route emission.now }
 {
-    Come::Record {
+    Consequence::Record {
         action,
         p: destination(route, by.n, by.p, emission.value),
         edge,
@@ -83,7 +83,11 @@ fn record_on<B: Allocator>(
 
 // Returns the record that arrives for `gone`, by the one emission of its target. The record is at another pointstamp, so no place
 // occurs twice among the changes.
-fn come_by<B: Allocator>(by: &Performer<'_, B>, gone: &ValueAt, emission: &Emission) -> Option<Come>
+fn come_by<B: Allocator>(
+    by: &Performer<'_, B>,
+    gone: &ValueAt,
+    emission: &Emission,
+) -> Option<Consequence>
     requires { by.now.p < by.now.n }
     ensures comes { IfSome result (ComesFor by.now gone.now emission.now) }
     ensures passes { PassesOn by.now gone.now emission.now → IsSome result }
@@ -104,7 +108,7 @@ fn come_by<B: Allocator>(by: &Performer<'_, B>, gone: &ValueAt, emission: &Emiss
 pub fn take_flow<A: Allocator, B: Allocator>(
     by: &Performer<'_, B>,
     taken: &Taken<'_, A>,
-) -> Option<Come>
+) -> Option<Consequence>
     requires { by.now.p < by.now.n }
     ensures leads { IfSome result (FlowLeads by.now taken.now) }
     ensures plain { IsPlainTake by.now taken.now → IsSome result }
@@ -117,8 +121,8 @@ pub fn take_flow<A: Allocator, B: Allocator>(
         return None;
     };
     match effect.emits.as_slice() {
-        [] if effect.sink => Some(Come::Count { vertex: by.vertex }),
-        [] => Some(Come::Nothing),
+        [] if effect.sink => Some(Consequence::Count { vertex: by.vertex }),
+        [] => Some(Consequence::Nothing),
         [emission] if !effect.sink => come_by(by, taken.key, emission),
         _ => None,
     }

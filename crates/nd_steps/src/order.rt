@@ -51,7 +51,7 @@ fn put_in_order<A: Allocator + Copy>(
 }
 
 /// Returns the changes in the order in which they are applied, so that everything is added before anything is removed; or the
-/// limit because of which they are refused: that of counts before that of entries (this project's own rule).
+/// limit because of which they are refused: that of counts before that of entries.
 pub fn planned_changes<A: Allocator + Copy>(
     processors: &[Processor<A>],
     all: Vec<Change, A>,

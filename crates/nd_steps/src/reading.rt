@@ -1,5 +1,5 @@
 //! The integer at a key, and what is read about a change before it is applied: whether the integer at its place is not
-//! 0 afterwards, and whether it is within its limit (this project's own rule).
+//! 0 afterwards, and whether it is within its limit.
 ghost use Rattle.std.specs.Prelude.{◌≡◌, ◌≤◌, ◌^◌, unsigned_abs};
 ghost use Rattle.nd_steps.specs.Slots.{stands, SlotIsThere};
 ghost use Rattle.nd_steps.specs.Limits.{ReadsAs, ReadsChange};

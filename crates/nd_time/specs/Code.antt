@@ -1,4 +1,4 @@
--- The number and the name by which a reply reports an error (this project's own rule).
+-- The number and the name by which a reply reports an error.
 use Rattle.std.specs.Prelude.{ℕ, List}
 
 -- the number and the name of an error

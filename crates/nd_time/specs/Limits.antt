@@ -1,4 +1,4 @@
--- The limits of the program, as contracts cite them (this project's own rule). The constants are those of src/limits.rt, where
+-- The limits of the program, as contracts cite them. The constants are those of src/limits.rt, where
 -- `limits_are_fixed` states the number of each.
 use Rattle.std.specs.Prelude.{ℕ}
 use Rattle.nd_time.specs.declared.limits.TheConstants.{MAX_DEPTH, MAX_DEPTH_V1, MAX_LOCATIONS, MAX_LOCATIONS_V5, MAX_PORTS, MAX_NAME, MAX_PROCESSORS, MAX_PROCESSORS_V1, MAX_COUNT, MAX_VALUES, MAX_QUEUE, MAX_KEPT, MAX_BREAKS, MAX_LOG, MAX_CLIENTS, MAX_WORKERS, PIECE_LENGTH, MAX_REACHED, MAX_LINE, MAX_INPUT, MAX_TOLD, MAX_LITERALS}

@@ -1,4 +1,4 @@
--- Timestamps, with unbounded natural numbers (Naiad, SOSP 2013, section 2.1; the order of counters is this project's own rule).
+-- Timestamps, with unbounded natural numbers (Naiad, SOSP 2013, section 2.1).
 use Rattle.std.specs.Prelude.{◌≡◌, ℕ, ◌+◌, ◌<◌, ◌≤◌, ◌⊎◌, List, [], ◌∷◌, ◌++◌, length}
 
 -- an epoch and the loop counters, outermost first

@@ -4,7 +4,7 @@ ghost use Rattle.nd_time.specs.Code.{coded};
 
 use std::marker::Model;
 
-/// The number and the name by which a reply reports an error (this project's own rule).
+/// The number and the name by which a reply reports an error.
 #[derive(Drop)]
 pub struct Code {
     number: u64,

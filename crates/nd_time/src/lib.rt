@@ -155,7 +155,7 @@ impl Timestamp {
 
     /// Returns whether this timestamp is at or before `other`. It is not if their depths differ.
     ///
-    /// Epochs compare as numbers and counters lexicographically (this project's own rule).
+    /// Epochs compare as numbers and counters lexicographically.
     pub fn at_or_before(&self, other: &Timestamp) -> bool
         ensures { IsTrue result ↔ IsAtOrBefore self.now other.now }
     {

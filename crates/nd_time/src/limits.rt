@@ -1,4 +1,4 @@
-//! The limits of the program (this project's own rule). Contracts cite them by their names in `specs/Limits.antt`, and
+//! The limits of the program. Contracts cite them by their names in `specs/Limits.antt`, and
 //! `limits_are_fixed` states the number of each.
 
 ghost use Rattle.std.specs.Prelude.{◌≡◌};

@@ -1,4 +1,4 @@
--- Checkpoints of a timeline, and where a walk begins (this project's own rule). Only the timeline's invariant
+-- Checkpoints of a timeline, and where a walk begins. Only the timeline's invariant
 -- and private contracts use these definitions.
 use Rattle.std.specs.Prelude.{◌≡◌, ℕ, ◌+◌, ◌*◌, ◌<◌, ◌≤◌, ◌-◌, List, All, AllPairs, Contains, length, take, slice_index_or}
 use Rattle.std.specs.Int.{abs_diff}

@@ -1,4 +1,4 @@
--- The number and the name with which a reply reports each error of a command (this project's own rule).
+-- The number and the name with which a reply reports each error of a command.
 use Rattle.std.specs.Prelude.{codes}
 use Rattle.nd_time.specs.Code.{Code, coded}
 use Rattle.nd_protocol.specs.Refusals as refusals

@@ -1,4 +1,4 @@
--- The debugger machine: which replies a command may get, and the machine after it (this project's own rule).
+-- The debugger machine: which replies a command may get, and the machine after it.
 -- Each relation has one case for each kind of reply that is possible; any other reply is impossible for that command.
 use Rattle.std.specs.Prelude.{◌≡◌, ◌≢◌, ℕ, zero, suc, ◌+◌, ◌-◌, ◌<◌, ◌≤◌, ◌⊎◌, List, Any, length, Option, None, Some, Result, Ok, Err}
 use Rattle.std.specs.FinMap as fin

@@ -1,4 +1,4 @@
--- The choice by a seed: where among the candidates a run begins (this project's own rule; the numbers are those of SplitMix64).
+-- The choice by a seed: where among the candidates a run begins (the numbers are those of SplitMix64).
 use Rattle.std.specs.Prelude.{◌≡◌, ℕ, ◌+◌, ◌*◌, ◌/◌, ◌%◌, ◌^◌, List, Option, None, Some, bit_xor}
 use Rattle.nd_protocol.specs.State.{ClusterState}
 use Rattle.nd_protocol.specs.declared.step.Step.{Step}

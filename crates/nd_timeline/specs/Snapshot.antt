@@ -1,4 +1,4 @@
--- A snapshot: a timeline, and an index (this project's own rule).
+-- A snapshot: a timeline, and an index.
 use Rattle.std.specs.Prelude.{ℕ, refl}
 use Rattle.std.specs.Coded.{Coded, code_by, coded×, coded_ℕ}
 use Rattle.nd_timeline.specs.Timeline.{TimelineValue}

@@ -1,4 +1,4 @@
--- The debugger's timeline: its base, the steps that it keeps, and the cursor (this project's own rule).
+-- The debugger's timeline: its base, the steps that it keeps, and the cursor.
 use Rattle.std.specs.Prelude.{ℕ, ◌+◌, ◌≤◌, List, [], ◌∷◌, ◌++◌, length, take}
 use Rattle.nd_time.specs.Limits.{max_kept}
 use Rattle.nd_protocol.specs.State.{ClusterState}

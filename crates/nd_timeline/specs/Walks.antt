@@ -1,4 +1,4 @@
--- Walks over the kept steps of a timeline (this project's own rule).
+-- Walks over the kept steps of a timeline.
 use Rattle.std.specs.Prelude.{ℕ, ◌≡◌, ◌+◌, ◌≤◌, Result, length, take}
 use Rattle.std.specs.Int.{abs_diff}
 use Rattle.nd_protocol.specs.State.{ClusterState}

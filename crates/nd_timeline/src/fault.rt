@@ -5,7 +5,7 @@ ghost use Rattle.nd_timeline.specs.Faults.{code_of};
 use nd_protocol::Refusal;
 use nd_time::Code;
 
-/// Why a command is refused (this project's own rule).
+/// Why a command is refused.
 #[derive(Debug, Drop, PartialEq, Eq)]
 pub enum Fault {
     /// The cluster refuses the step.

@@ -12,8 +12,7 @@ use nd_paths::Pointstamp;
 use std::alloc::{AllocError, Allocator, Global};
 use std::marker::Model;
 
-/// A copy of a timeline, which no later command changes, and the length of the log that led to it
-/// (this project's own rule).
+/// A copy of a timeline, which no later command changes, and the length of the log that led to it.
 ///
 /// No call takes a lock.
 pub struct Snapshot<A: Allocator + Copy = Global> {

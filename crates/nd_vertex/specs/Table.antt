@@ -1,4 +1,4 @@
--- What each operator does on a record and on a notification (this project's own rule).
+-- What each operator does on a record and on a notification.
 use Rattle.std.specs.Prelude.{ℕ, zero, suc, ℤ, pos, negsuc, ◌+ℤ◌, ◌*ℤ◌, int_lt, Bool, true, false, cond, not, List, [], ◌∷◌}
 use Rattle.std.specs.Ordering.{eq_by_cmp}
 use Rattle.nd_map.specs.Counts.{at, added, set, only}

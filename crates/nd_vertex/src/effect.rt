@@ -54,7 +54,7 @@ impl ItemEdit {
     }
 }
 
-/// What a vertex does on a record or a notification (this project's own rule).
+/// What a vertex does on a record or a notification.
 pub struct Effect<A: Allocator = Global> {
     pub emits: Vec<Emission, A>,
     /// Whether the vertex requests a notification at the timestamp.

@@ -8,7 +8,7 @@ use thiserror::Error;
 pub enum VertexFault {
     #[error("the loop counter is at its limit")]
     CounterFull,
-    #[error("the result has no 64 bits")]
+    #[error("the result does not fit in 64 bits")]
     ValueRange,
     #[error("out of memory")]
     Memory,

@@ -1,4 +1,4 @@
-//! What a vertex does on records and notifications: the table of operators (this project's own rule).
+//! What a vertex does on records and notifications: the table of operators.
 ghost use Rattle.std.specs.Prelude.{◌≡◌, ◌≢◌, ◌↔◌, Some, Err, IfOk, IfErr, IsErr, pos, length};
 ghost use Rattle.nd_graph.specs.Graph.{action_of};
 ghost use Rattle.nd_vertex.specs.Items.{item_key};

@@ -1,4 +1,4 @@
--- The times that can still arrive at a location, according to a view (this project's own rule; in timely dataflow the frontier of
+-- The times that can still arrive at a location, according to a view (in timely dataflow the frontier of
 -- a probe).
 use Rattle.std.specs.Prelude.{◌≡◌, ◌<◌, ℕ, ℤ, pos, ◌<ℤ◌, All, Contains, List, length, slice_index_or, ◌↔◌}
 use Rattle.std.specs.declared.cmp.Ordering.TheVariants.{Less}

@@ -96,7 +96,7 @@ fn forget<A: Allocator>(frontier: &mut Vec<Pointstamp, A>, point: &Pointstamp, i
     );
 }
 
-// Corrects the list at `point`, if it is correct at all other pointstamps. It takes no memory.
+// Restores the frontier list after the count at `point` changed. It takes no memory.
 fn set_right<A: Allocator + Copy>(
     counts: &Rows<A>,
     frontier: &mut Vec<Pointstamp, A>,

@@ -1,4 +1,4 @@
--- Why a processor does not consider a pointstamp finished (this project's own rule, based on FORTE 2013).
+-- Why a processor does not consider a pointstamp finished (based on FORTE 2013).
 use Rattle.std.specs.Prelude.{◌≡◌, ◌<◌, ◌+ℤ◌, ℕ, zero, suc, ℤ, pos, negsuc, cond, List, [], ◌∷◌, ◌++◌, Contains, length, map, slice_index_or, sum_by}
 use Rattle.std.specs.List.{flat_map, Any}
 use Rattle.std.specs.FinMap as fin

@@ -1,5 +1,5 @@
 //! Why a processor does not consider a pointstamp finished: what its view still counts, who really holds it,
-//! and which progress updates the processor has not received (this project's own rule, based on FORTE 2013).
+//! and which progress updates the processor has not received (based on FORTE 2013).
 #![tactic(auto)]
 
 mod answer;

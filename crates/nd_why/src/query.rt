@@ -69,8 +69,7 @@ fn reasons_at<A: Allocator + Copy>(
     Ok(Reasons { reasons })
 }
 
-/// Returns why processor `asked.q` does not consider everything before `asked.point` finished (this project's
-/// own rule, based on FORTE 2013).
+/// Returns why processor `asked.q` does not consider everything before `asked.point` finished (based on FORTE 2013).
 ///
 /// The reasons are the pointstamps on the frontier of the processor's view that are before `asked.point`. Each
 /// comes with everything held there and all updates of it that the processor has not received.

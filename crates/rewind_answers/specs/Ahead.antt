@@ -1,5 +1,4 @@
--- The replies to queries about what a run could try next, and about the times that can still arrive at a location (this project's
--- own rule).
+-- The replies to queries about what a run could try next, and about the times that can still arrive at a location.
 use Rattle.std.specs.Prelude.{◌≡◌, ℕ, ◌<◌, ◌≤◌, ◌⊎◌, List, length}
 use Rattle.std.specs.declared.alloc.Global.{Global}
 use Rattle.serde_json.specs.Data.{Data}

@@ -1,5 +1,4 @@
--- The reply to the question why a processor does not consider a pointstamp finished when all that can happen has happened (this
--- project's own rule).
+-- The reply to the question why a processor does not consider a pointstamp finished when all that can happen has happened.
 use Rattle.std.specs.Prelude.{◌≡◌, ◌↔◌, ◌<◌, ◌≤◌, ℕ, Bool, IsTrue, Option, Some, None, [], length}
 use Rattle.std.specs.declared.alloc.Global.{Global}
 use Rattle.serde_json.specs.Data.{Data}

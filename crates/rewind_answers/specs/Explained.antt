@@ -1,5 +1,5 @@
 -- The replies to queries about the kept steps and what one of them changed, about why a processor does not consider a pointstamp
--- finished or anything strictly before it, and about when its view changed and when a condition turned (this project's own rule).
+-- finished or anything strictly before it, and about when its view changed and when a condition turned.
 use Rattle.std.specs.Prelude.{◌≡◌, ◌-◌, ◌↔◌, IsTrue, Bool, true, ℕ, ◌<◌, ◌≤◌, ◌⊎◌, List, map, length, Option, Some, None, slice_get}
 use Rattle.std.specs.declared.alloc.Global.{Global}
 use Rattle.serde_json.specs.Data.{Data}

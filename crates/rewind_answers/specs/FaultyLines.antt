@@ -1,4 +1,4 @@
--- The reply to a line that is neither a command nor a query (this project's own rule).
+-- The reply to a line that is neither a command nor a query.
 use Rattle.std.specs.Prelude.{ℕ, Option, Some, None}
 use Rattle.serde_json.specs.Data.{Data}
 use Rattle.rewind_forms.specs.LineFaults.{code_of}

@@ -1,4 +1,4 @@
--- The reply to a question for what can still happen (this project's own rule).
+-- The reply to a question for what can still happen.
 use Rattle.std.specs.Prelude.{◌≡◌, ℕ, Bool, Option, Some, None}
 use Rattle.std.specs.declared.alloc.Global.{Global}
 use Rattle.serde_json.specs.Data.{Data}

@@ -59,7 +59,7 @@ fn refuse_unread<R: Eprint>(rt: &R, error: &io::Error) -> u8 {
     if error.kind() == ErrorKind::OutOfMemory {
         return report(rt, DebugFault::Memory);
     }
-    let _ = rt.eprintln("rewind: the words can't be read");
+    let _ = rt.eprintln("rewind: cannot read the command-line arguments");
     REFUSED
 }
 

@@ -33,7 +33,7 @@ Replies (refused_graph reply) replies = replies ≡ reply ∷ []
 Replies (faulty_line reply) replies = replies ≡ reply ∷ []
 Replies (script version opening machine commands) replies = (lines : List Data) × AreLines machine.machine commands lines × (replies ≡ opening ++ lines)
 
--- the run ends well with this intake; `IsRefused` and `IsFaulty` are those that end it with Graph and with Script
+-- the run succeeds with this intake; `IsRefused` and `IsFaulty` are those that end it with Graph and with Script
 abbrev pub EndsWell : Intake → Type 0
 EndsWell (refused_graph reply) = ⊥
 EndsWell (faulty_line reply) = ⊥

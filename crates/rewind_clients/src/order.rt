@@ -22,7 +22,7 @@ pub struct Order {
     pub command: Command,
 }
 
-/// Why a line of a script of several clients is not a command (this project's own rule).
+/// Why a line of a script of several clients is not a command.
 #[derive(Clone, Copy, Debug, PartialEq, Eq, Drop)]
 pub enum OrderFault {
     /// As in a script of one client.

@@ -26,7 +26,7 @@ asked_as v g d (Query form) = after (query_of v g form d) (λ query. Ok (Look qu
 unfoldable pub asked_of : Version → Dataflow → Data → Result Asked LineFault
 asked_of v g d = given BadShape (form_of v d) (asked_as v g d)
 
--- ---- from when memory is asked for
+-- ---- when reading may run out of memory
 
 -- a line of this form asks for memory
 abbrev pub FormAsks : Version → Dataflow → Data → Form → Type 0

@@ -69,7 +69,7 @@ atom_of g d =
     (within (inner (codes "view") (codes "at" ∷ codes "at_least" ∷ codes "q" ∷ codes "time" ∷ []) d) (view_of g)
     (first_atom_of g d))
 
--- ---- from when memory is asked for
+-- ---- when reading may run out of memory
 
 -- {"at":name,"q":n,"time":t}
 abbrev pub PassedAsks : Data → Type 0

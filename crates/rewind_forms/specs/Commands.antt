@@ -64,7 +64,7 @@ command_of v g form.RunOnlyBySeed d = run_only_by_seed_of d
 command_of v g form.Break d = set_of v g d
 command_of v g form.Unbreak d = clear_of d
 
--- ---- from when memory is asked for
+-- ---- when reading may run out of memory
 
 -- {"limit":n,"only":list,"run":true}
 unfoldable pub RunAsks : Data → Type 0

@@ -94,7 +94,7 @@ condition_of v g d =
     if includes v Fourth then combined_of g d
     else after (first_atom_of g d) (λ atom. Ok (of_literal All (Is atom)))
 
--- ---- from when memory is asked for
+-- ---- when reading may run out of memory
 
 unfoldable pub LiteralAsks : Data → Type 0
 LiteralAsks d = Either (alone (codes "not") d) AtomAsks (AtomAsks d)

@@ -107,7 +107,7 @@ processors_at key d = option_and_then processors_of (list_at key d)
 unfoldable pub named_at : List ℕ → Data → Option (List ℕ × List ℕ)
 named_at key d = option_and_then (λ name. option_map (λ numbers. (name, numbers)) (numbers_at (codes "time") d)) (text_at key d)
 
--- ---- from when memory is asked for: what reading has found by then, a list or the condition of a breakpoint
+-- ---- when reading may run out of memory: what reading has found by then, a list or the condition of a breakpoint
 
 -- a list is at the key
 unfoldable pub HasList : List ℕ → Data → Type 0

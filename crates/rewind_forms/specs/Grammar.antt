@@ -1,4 +1,4 @@
--- The grammar of a script (this project's own rule): the words that a line may have under "do", each with the keys of its object and the
+-- The grammar of a script: the words that a line may have under "do", each with the keys of its object and the
 -- first version whose scripts have it.
 use Rattle.std.specs.Prelude.{ℕ, ◌&&◌, List, [], ◌∷◌, if◌then◌else◌, Option, Some, None, option_and_then, codes}
 use Rattle.std.specs.Str.{bytes_eq}

@@ -1,4 +1,4 @@
--- The number and the name of each error of a line (this project's own rule).
+-- The number and the name of each error of a line.
 use Rattle.std.specs.Prelude.{codes}
 use Rattle.nd_time.specs.Code.{Code, coded}
 use Rattle.rewind_forms.specs.declared.fault.LineFault.{LineFault}

@@ -150,7 +150,7 @@ query_of v g form.Reach d = reach_of v g d
 query_of v g form.ReachWith d = reach_with_of v g d
 query_of v g form.WhyAtRest d = why_at_rest_of g d
 
--- ---- from when memory is asked for
+-- ---- when reading may run out of memory
 
 -- the condition of a search, of turns, or of what can still happen
 abbrev pub WhenAsks : Version → Data → Type 0

@@ -125,7 +125,7 @@ read_as g d (line.Query form) = Err BadShape
 unfoldable pub read_of : Dataflow → Data → Result (Step Global) LineFault
 read_of g d = given BadShape (form_of Sixth d) (read_as g d)
 
--- ---- from when memory is asked for
+-- ---- when reading may run out of memory
 
 abbrev pub StepAsks : StepForm → Data → Type 0
 StepAsks form.Feed d = IsSomeAnd (small_at (codes "p") d) (λ p. IsSomeAnd (text_at (codes "vertex") d) (λ name. HasList (codes "values") d))

@@ -1,4 +1,4 @@
--- The versions of a script, and the line that names one (this project's own rule).
+-- The versions of a script, and the line that names one.
 use Rattle.std.specs.Prelude.{ℕ, Bool, nat_eq, nat_le, [], ◌∷◌, if◌then◌else◌, Option, Some, None, option_and_then, codes}
 use Rattle.serde_json.specs.Data.{Data}
 use Rattle.nd_json.specs.Forms.{has_keys, whole_at}

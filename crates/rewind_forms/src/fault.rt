@@ -6,7 +6,7 @@ use nd_time::Code;
 use std::alloc::AllocError;
 use thiserror::Error;
 
-/// Why a line is neither a command nor a query (this project's own rule).
+/// Why a line is neither a command nor a query.
 #[derive(Clone, Copy, Debug, PartialEq, Eq, Drop, Error)]
 pub enum LineFault {
     #[error("the line has more bytes than a line may have")]

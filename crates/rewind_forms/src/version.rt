@@ -6,7 +6,7 @@ ghost use Rattle.rewind_forms.specs.Versions.{number_of, numbered as numbered_in
 use nd_json::{has_keys, whole_at};
 use serde_json::Value;
 
-/// The version of a script, which determines what its lines may ask for (this project's own rule).
+/// The version of a script, which determines what its lines may ask for.
 #[derive(Clone, Copy, Debug, PartialEq, Eq, Drop)]
 pub enum Version {
     /// The version of a script whose first line is its graph.

@@ -1,4 +1,4 @@
--- The steps that a run could try as a JSON value (this project's own rule).
+-- The steps that a run could try as a JSON value.
 use Rattle.std.specs.Prelude.{List, map, codes, Option, Some, None, option_map}
 use Rattle.std.specs.declared.alloc.Global.{Global}
 use Rattle.serde_json.specs.Data.{Data, object, no_members, member}

@@ -1,4 +1,4 @@
--- The changes of a view as a JSON value (this project's own rule).
+-- The changes of a view as a JSON value.
 use Rattle.std.specs.Prelude.{List, [], ◌∷◌, map}
 use Rattle.serde_json.specs.Data.{Data}
 use Rattle.nd_state_json.specs.StateText.{row, natural, whole}

@@ -1,4 +1,4 @@
--- What a step changed as a JSON value (this project's own rule).
+-- What a step changed as a JSON value.
 use Rattle.std.specs.Prelude.{ℕ, ℤ, Bool, [], ◌∷◌, map, codes, Option, option_map, unwrap_or}
 use Rattle.serde_json.specs.Data.{Data, null, boolean, object, no_members, member}
 use Rattle.nd_graph.specs.Graph.{Dataflow}

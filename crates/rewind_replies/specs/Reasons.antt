@@ -1,4 +1,4 @@
--- Why a processor does not consider a pointstamp finished, as a JSON value (this project's own rule).
+-- Why a processor does not consider a pointstamp finished, as a JSON value.
 use Rattle.std.specs.Prelude.{ℕ, true, List, map, codes}
 use Rattle.serde_json.specs.Data.{Data, boolean, object, no_members, member}
 use Rattle.nd_graph.specs.Graph.{Dataflow}

@@ -1,4 +1,4 @@
--- The frontier at a location as a JSON value (this project's own rule).
+-- The frontier at a location as a JSON value.
 use Rattle.std.specs.Prelude.{List, map}
 use Rattle.serde_json.specs.Data.{Data}
 use Rattle.nd_time.specs.Time.{Time}

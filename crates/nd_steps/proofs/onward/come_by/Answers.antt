@@ -11,7 +11,7 @@ use Rattle.nd_protocol.specs.Steps.{destination}
 use Rattle.nd_steps.proofs.AlikeLemmas.{same_key}
 use Rattle.nd_steps.specs.Flows.{come_key}
 use Rattle.nd_steps.specs.Onward.{leaving}
-use Rattle.nd_steps.specs.declared.come.Come.TheVariants.{Record}
+use Rattle.nd_steps.specs.declared.consequence.Consequence.TheVariants.{Record}
 use Rattle.nd_steps.proofs.OnwardLemmas.{one_made, left_once, made_at}
 use Rattle.nd_steps.proofs.onward.come_by.Goals as goal
 

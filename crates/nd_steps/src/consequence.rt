@@ -8,7 +8,7 @@ use nd_time::Timestamp;
 
 /// The consequence of a take: what arrives for the record that is taken.
 #[derive(Clone, Copy, Debug, PartialEq, Eq, Drop)]
-pub enum Come {
+pub enum Consequence {
     Nothing,
     /// A record on an edge, at processor `p`. Its time is that of the taken record, after the action.
     Record {
@@ -39,13 +39,13 @@ fn pass(action: Action, time: &mut Timestamp)
     }
 }
 
-impl Come {
+impl Consequence {
     // Returns the record that arrives for `gone`, or `gone` itself if no record arrives.
     pub(crate) fn key(&self, gone: &ValueAt) -> ValueAt
         ensures { result ≡ come_key gone.now self.now }
     {
         let mut key = gone.copy();
-        if let Come::Record {
+        if let Consequence::Record {
             action,
             p: _,
             edge,
