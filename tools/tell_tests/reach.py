@@ -1,7 +1,7 @@
 """What tools/test_tell tells of scripts of version 7: what can still happen, and runs by a seed."""
 import json
 
-from rewind_tools.telling.cases import A, Z, do, edge, graph
+from tell_tests.cases import A, Z, do, edge, graph
 
 V7, V6 = '{"version":7}', '{"version":6}'
 EXCHANGE = json.dumps(graph([A, Z], [edge("az", "a", "z", route="exchange")]))

@@ -2,7 +2,7 @@
 processor may keep back. Scripts as in cases.py, and graphs that are refused."""
 import json
 
-from rewind_tools.telling.cases import A, S, V4, V5, Z, do, edge, graph, vertex
+from tell_tests.cases import A, S, V4, V5, Z, do, edge, graph, vertex
 
 V6 = '{"version":6}'
 X, Y = vertex("x", "opaque", ports=2), vertex("y", "sink")
