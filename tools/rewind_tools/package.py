@@ -27,11 +27,12 @@ from rewind_tools.runs import TOP
 PROGRAM = os.path.join(TOP, "crates", "rewind_cli", "out", "rewind_cli")
 SOURCES = ("crates", "crates.txt")
 # What a checkout can start, with what goes into the package.
-WITHIN = ("README.md", "rewind", "check", "docs", "editors", "examples", "tools", "gate", "bench")
+PAGES = ("README.md", "CHANGELOG.md", "SECURITY.md", "CITATION.cff")
+WITHIN = (*PAGES, "rewind", "check", "docs", "editors", "examples", "tools", "gate", "bench")
 PACKED = re.compile(
-    r"README\.md|rewind|(?:docs|editors|examples)/.*"
+    r"\w+\.(?:md|cff)|rewind|(?:docs|editors|examples)/.*"
     r"|tools/(?:dap|follow|graph|live|repl|replay|show|tell|timely)"
-    r"|tools/rewind_tools/(?!(?:browser|package|testing)\.py$).*"
+    r"|tools/rewind_tools/(?!(?:browser|package|pages|testing)\.py$).*"
 )
 LINK = re.compile(r"\[((?:[^\[\]`]|`[^`]*`)*)\]\(([^()\s]+)\)")
 GLIBC = re.compile(rb"\bGLIBC_(\d+)\.(\d+)\b")
