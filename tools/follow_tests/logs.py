@@ -1,7 +1,5 @@
 """Small logs, each with its ending, for tools/test_timely: what the protocol allows of them was worked out
 by hand. All have the dataflow a (source) --> m --> z (sink), but for those that bring another."""
-import json
-
 A, M, Z = 1, 2, 3
 
 
@@ -54,10 +52,6 @@ def without(logs, worker, place):
 def cut(logs, worker, count):
     """Logs of which a worker's has so many events."""
     return [log[:count] if at == worker else log for at, log in enumerate(logs)]
-
-
-def bytes_of(log):
-    return "".join(json.dumps(it) + "\n" for it in log).encode()
 
 
 # One worker that sends a message at epoch 0 through m to z, and ends.

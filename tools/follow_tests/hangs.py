@@ -1,6 +1,6 @@
 """Small traces, each with what holds its sinks back or is missing in it, for tools/test_follow."""
 from rewind_tools import graph_text
-from rewind_tools.following.cases import (
+from follow_tests.traces import (
     CLOCK, GRAPHS, SUMS_RUN, broadcast, feed, passed, receive, release, take,
 )  # fmt: skip
 
