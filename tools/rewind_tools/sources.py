@@ -5,6 +5,9 @@ note for each (following/saving.py).
                                          or if the script has other lines
     words_of(places[5])                  "worker-0.jsonl, line 3; note: main.rs:12"
     with_place("step 3: ..", place)      words with the place that belongs to them, if there is one
+    marks_of("run.jsonl")                by the number of a step, or "end", what was refused after it: the worker
+                                         and why, from lines of FILE.lines as
+                                         {"refused":"end","worker":1,"text":"line 7: .."}
     remove_others(path, places)          removes the places of a script that is overwritten"""
 import contextlib
 import json
@@ -20,6 +23,16 @@ def places_of(path):
                     found[int(it[10 : it.index(b",")])] = it
             count = sum(1 for _ in script)
     return found if max(found, default=0) == (count if found else 0) else {}
+
+
+def marks_of(path):
+    marks = {}
+    with contextlib.suppress(OSError, ValueError), open(f"{path}.lines", "rb") as lines:
+        for it in lines:
+            if it.startswith(b'{"refused":'):
+                value = json.loads(it)
+                marks[value["refused"]] = value["worker"], value["text"]
+    return marks
 
 
 def words_of(place):

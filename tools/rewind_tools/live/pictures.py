@@ -52,11 +52,16 @@ class Pictures:
         self.depths = depths_of(session.graph)
         self.steps, self.fronts, self.turned = {}, {}, Turned(session)
         self.here, self.tried, self.most_entries = (None, None), (None, None), 0
+        self.marks = []
 
     def forget_from(self, position):
         """Forgets what leads to positions past this one, since other steps may be kept there."""
         self.steps = {it: step for it, step in self.steps.items() if it <= position}
         self.turned.forget_from(position)
+
+    def mark(self, position, worker, words):
+        """Marks on a worker's lane, after the step that leads to a position, what was refused there."""
+        self.marks = [*self.marks, {"at": position, "p": worker, "words": plain(words)}]
 
     def at_cursor(self, cursor, revision, has_effect=True):
         """The replies at the cursor: the state, the frontiers, and what the last step changed, if there is
@@ -104,6 +109,7 @@ class Pictures:
                 "items": [self.shown_step(*it) for it in enumerate(steps, first)],
                 "messages": messages(steps, first, cursor, state["queues"]),
             },
+            "marks": self.marks,
             "breaks": [{"id": key, "when": plain(when)} for key, when in sorted(self.teller.breaks.items())],
             "why": self.why(sight["why"]) if sight.get("why") else None,
             "turns": self.turns(sight["when"], cursor, kept) if sight.get("when") else None,

@@ -22,7 +22,7 @@ from rewind_tools.second import Second
 from rewind_tools.session import Ended
 from rewind_tools.telling import faults, names
 from rewind_tools.telling.answers import Teller
-from rewind_tools.telling.commands import FIRM, counted
+from rewind_tools.telling.commands import FIRM, counted, processor_of
 from rewind_tools.tool import Progress
 
 POLICY = (
@@ -91,16 +91,26 @@ class Live:
         self.lock.acquire(timeout=1)  # a step that was answered is still written
         return self.journal.close()
 
-    def execute(self, lines):
-        """Executes a script's lines before a page is there; returns why some were refused."""
-        refused, self.journal.report = [], Progress(self.say).report
+    def execute(self, lines, marks=None):
+        """Executes a script's lines before a page is there; returns why some were refused. `marks` has what
+        else was refused, by the number of the step before it or "end" (rewind_tools/sources.py)."""
+        refused, self.journal.report, last = [], Progress(self.say).report, 0
         for entry in opening.executed(self.journal, lines, True):
             if "line" not in entry.reply:
                 self.note(entry.line.value, entry.reply)
-            why = opening.refusal(entry, self.teller)
-            refused += [why] if why else []
+            last, why = entry.reply.get("at", last), opening.refusal(entry, self.teller)
+            if why:
+                refused.append(why)
+                self.mark_refused(entry, last, why)
+        for step, it in (marks or {}).items():
+            self.pictures.mark(self.kept if step == "end" else step, *it)
         self.journal.report, self.journal.may_go_on = self.show_progress, lambda: not self.is_cancelled
         return refused
+
+    def mark_refused(self, entry, position, why):
+        """Marks a refused step of the script on its processor's lane."""
+        if "line" not in entry.reply and entry.line.value["do"] in STEPS:
+            self.pictures.mark(position, processor_of(entry.line.value), why)
 
     def note(self, value, reply):
         self.teller.keep(value, reply)

@@ -45,6 +45,13 @@ function stepMark(step) {
   return it;
 }
 
+// What was refused after a step, on its worker's lane.
+function refusedMark({ at, p, words }) {
+  const it = drawn("path", { class: "refused-mark", d: `M${x(at) + 4},${y(p) - 5} l10,10 m0,-10 l-10,10` });
+  it.append(drawn("title", {}, words));
+  return it;
+}
+
 // Where a condition holds among the positions in sight.
 function turnParts(high, wide) {
   if (!picture.turns || picture.turns.error) return [];
@@ -83,6 +90,7 @@ function showSteps() {
   const svg = drawn("svg", { width: wide, height: high, role: "img", "aria-label": words });
   const now = x(picture.at) + STEP_WIDTH / 2;
   svg.append(...turnParts(high, wide), ...lanes(wide), ...messages.map(message), ...items.map(stepMark));
+  svg.append(...picture.marks.filter((it) => it.at >= first - 1 && it.at <= end && it.p < about.processors).map(refusedMark));
   svg.append(drawn("line", { class: "now", x1: now, x2: now, y1: 2, y2: high - 2 }));
   by("spacetime").replaceChildren(svg);
   by("range").textContent = picture.kept ? `${first} to ${end} of ${picture.kept}; click one to go there` : "none yet";

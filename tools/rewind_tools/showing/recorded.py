@@ -6,6 +6,7 @@ client: the picture that a live page would show, and why processors do not consi
 import json
 from html import escape
 
+from rewind_tools import sources
 from rewind_tools.live.pictures import Pictures
 from rewind_tools.page import SCRIPTS, filled, graph_of, part, places_of
 from rewind_tools.runs import run_script, without_clients
@@ -14,7 +15,7 @@ from rewind_tools.session import Ended, Session
 from rewind_tools.showing.packing import Packer
 from rewind_tools.showing.states import order_of
 from rewind_tools.telling import faults
-from rewind_tools.telling.commands import command_words, counted, time_in
+from rewind_tools.telling.commands import command_words, counted, processor_of, time_in
 from rewind_tools.telling.table import Points
 
 # How many steps of runs a page shows at most, those that end a run aside; how long a line or a reply is;
@@ -50,7 +51,8 @@ class Copy:
 
     def __init__(self, told, words, teller):
         self.session = Session(told.graph, without_clients(words))
-        self.pictures, self.named = Pictures(self.session, teller), named_points(told)
+        self.places = {}
+        self.pictures, self.named = Pictures(self.session, teller, self.with_place), named_points(told)
         self.left = {"all": MOST, "fewer": MOST_OF_FEWER}
         self.revision, self.is_there = 0, "locations" in self.session.started
         self.at = self.kept = 0
@@ -65,12 +67,31 @@ class Copy:
         self.at, self.kept = reply.get("at", self.at), reply.get("kept", self.kept)
         return reply
 
-    def follow(self, entry):
-        """Executes the line of a command."""
+    def with_place(self, position, said):
+        """What is said of the step that leads to a position, with where it comes from, if that is known."""
+        return sources.with_place(said, self.places.get(position))
+
+    def follow(self, entry, place=None):
+        """Executes the line of a command, which comes from a place."""
         value = entry.line.value if entry.line and "line" not in entry.reply else None
         if isinstance(value, dict) and value.get("do") in COMMANDS:
             reply = self.execute({key: it for key, it in value.items() if key != "client"})
             self.is_there = all(reply.get(key) == entry.reply.get(key) for key in FOLLOWED)
+            if value["do"] in STEPS:
+                self.note_step(value, reply, place)
+
+    def mark(self, marks, last):
+        """Marks what was refused after steps, and after the last one."""
+        for step, it in marks.items():
+            self.pictures.mark(last if step == "end" else step, *it)
+
+    def note_step(self, value, reply, place):
+        """Notes where a step comes from, or marks that it was refused."""
+        if "error" in reply:
+            why = self.pictures.teller.refused(value, reply, None)
+            self.pictures.mark(self.at, processor_of(value), f"{command_words(value)}: {'; '.join(why)}")
+        else:
+            self.places[self.at] = place
 
     def go_to(self, position):
         """Goes to a position within a run, and returns the step that leads there."""
@@ -120,8 +141,8 @@ class Copy:
 class Recorder:
     """The positions of a page, one after the other."""
 
-    def __init__(self, told, script, words, report):
-        self.count, self.done, self.report = len(told.entries), 0, report
+    def __init__(self, told, script, words, report, places):
+        self.count, self.done, self.report, self.places = len(told.entries), 0, report, places
         self.teller = faults.teller_of(told, script)
         has_graph = any("locations" in it.reply for it in told.entries)
         self.copy = Copy(told, words, self.teller) if has_graph else None
@@ -155,7 +176,7 @@ class Recorder:
 
     def follow(self, entry):
         """Has the copy follow a line, and adds the steps of a run but the last."""
-        self.copy.follow(entry)
+        self.copy.follow(entry, self.places.get(entry.line and entry.line.number))
         last, ran = entry.reply.get("at"), entry.reply.get("ran", 0)
         if not ran or not self.copy.is_there:
             return []
@@ -197,10 +218,12 @@ def shown_line(entry):
     }
 
 
-def recorded(told, script, words, report):
+def recorded(told, script, words, report, marks, places):
     """The data of a page. How many lines and positions are done is reported."""
-    recorder = Recorder(told, script, words, report)
+    recorder = Recorder(told, script, words, report, places)
     try:
+        if recorder.copy:
+            recorder.copy.mark(marks, last_kept(told))
         for entry in told.entries:
             recorder.add(entry)
     finally:
@@ -215,8 +238,16 @@ def embedded(value):
     return text.replace("<", "\\u003c").replace(">", "\\u003e").replace("&", "\\u0026")
 
 
-def page_of(name, script, words, uses_dot=True, report=lambda text: None):
-    """The page of a script's run, and the run."""
+def last_kept(told):
+    """How many steps a run has kept at its end."""
+    return next((it.reply["kept"] for it in reversed(told.entries) if "kept" in it.reply), 0)
+
+
+# tools/follow makes the page of a trace by this: `script` is the merged run, `marks` what was refused.
+def page_of(name, script, words, uses_dot=True, report=lambda text: None, marks=None, places=None):
+    """The page of a script's run, and the run. `marks` has what was refused, which is shown in red: by the
+    number of the step before it, or "end", the worker and a text (worker, text). `places` has by the number
+    of a line of the script where that comes from, as bytes (rewind_tools/sources.py)."""
     told = run_script(script, words, ())
     start = next((it.reply for it in told.entries if "locations" in it.reply), {})
     has_form = start or any("location" in it.reply for it in told.entries[:1])
@@ -225,7 +256,7 @@ def page_of(name, script, words, uses_dot=True, report=lambda text: None):
     none = {"graph": "<p>The program has read no graph.</p>", "size": "", "loops": ""}
     drawn = graph_of(graph, count, uses_dot) if has_form else none
     about = {"processors": count, "places": places_of(graph), "name": name}
-    run = recorded(told, script, words, report)
+    run = recorded(told, script, words, report, marks or {}, places or {})
     values = {
         "title": escape(f"{name}, {counted(count, 'processor')}" if start else name),
         "command": escape(" ".join(["rewind", *words, "<", name])),
