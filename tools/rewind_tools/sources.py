@@ -5,8 +5,8 @@ note for each (following/saving.py).
                                          or if the script has other lines
     words_of(places[5])                  "worker-0.jsonl, line 3; note: main.rs:12"
     with_place("step 3: ..", place)      words with the place that belongs to them, if there is one
-    marks_of("run.jsonl")                by the number of a step, or "end", what was refused after it: the worker
-                                         and why, from lines of FILE.lines as
+    marks_of("run.jsonl")                by the number of a step, or "end", what was refused after it: the
+                                         worker and a text; FILE.lines has lines for that, as
                                          {"refused":"end","worker":1,"text":"line 7: .."}
     remove_others(path, places)          removes the places of a script that is overwritten"""
 import contextlib
