@@ -1,14 +1,15 @@
 """A package of the proved program for machines without the toolchain.
 
-    package.write(folder)      the path of rewind-VERSION-linux-x86_64.tar.gz, which is written there
+    package.write(folder)      the path of rewind-VERSION-linux-x86_64.tar.gz, which is tried and written
+                               there; then that of a Debian package, if one is wanted
 
 VERSION is the date and the number of the commit. The package has the program, ./rewind, the tools that ask
 the program, the pages, the editors' configurations and the examples, and PROVED.txt, which says from what
 the program was built. ./rewind compares the program with the sum there. All else that a checkout can start
 is a link to a script that says that it needs one. The same commit and the same program give the same bytes.
 
-There is no package, but a tool.Fault, if the program is not proved, or older than its sources, or if a file
-that goes into the package, or a source, is not as the commit has it."""
+There is no package, but a tool.Fault, if the program is not proved, or older than its sources, if a file
+that goes into the package, or a source, is not as the commit has it, or if what was tried does not pass."""
 import gzip
 import hashlib
 import io
@@ -17,11 +18,13 @@ import posixpath
 import re
 import shutil
 import subprocess
+import sys
 import tarfile
+import tempfile
 import time
 from typing import NamedTuple
 
-from rewind_tools import tool
+from rewind_tools import debian, tool
 from rewind_tools.runs import TOP
 
 PROGRAM = os.path.join(TOP, "crates", "rewind_cli", "out", "rewind_cli")
@@ -32,7 +35,7 @@ WITHIN = (*PAGES, "rewind", "check", "docs", "editors", "examples", "tools", "ga
 PACKED = re.compile(
     r"\w+\.(?:md|cff)|rewind|(?:docs|editors|examples)/.*"
     r"|tools/(?:dap|follow|graph|live|repl|replay|show|tell|timely)"
-    r"|tools/rewind_tools/(?!(?:browser|package|pages|testing)\.py$).*"
+    r"|tools/rewind_tools/(?!(?:browser|debian|package|pages|testing)\.py$).*"
 )
 LINK = re.compile(r"\[((?:[^\[\]`]|`[^`]*`)*)\]\(([^()\s]+)\)")
 GLIBC = re.compile(rb"\bGLIBC_(\d+)\.(\d+)\b")
@@ -156,11 +159,16 @@ def with_links_to(paths, page, text):
     return LINK.sub(judged, text)
 
 
+def glibc_of(program):
+    """The least glibc that the program needs."""
+    found = max(((int(a), int(b)) for a, b in GLIBC.findall(program)), default=(2, 0))
+    return ".".join(map(str, found))
+
+
 def proved_text(commit, toolchain_name, program):
-    glibc = max(((int(a), int(b)) for a, b in GLIBC.findall(program)), default=(2, 0))
     return PROVED.format(
         version=commit.version,
-        glibc=".".join(map(str, glibc)),
+        glibc=glibc_of(program),
         commit=commit.number,
         toolchain=toolchain_name,
         program=hashlib.sha256(program).hexdigest(),
@@ -215,15 +223,33 @@ def archive(folder, entries, seconds):
     return packed.getvalue()
 
 
-def write(folder):
-    """Writes the package into a folder; the path of it."""
+def try_it(path):
+    """Tries a package, as tools/test_package does; what does not pass is a tool.Fault."""
+    environment = {**os.environ, "PACKAGE": path, "REWIND_PROGRAM": PROGRAM}
+    command = [os.path.join(TOP, "tools", "test_package"), "Unpacked"]
+    ran = subprocess.run(command, env=environment, capture_output=True, text=True)
+    said = ran.stdout.splitlines() or ["package: it could not be tried"]
+    if ran.returncode:
+        raise tool.Fault("\n".join(["the package does not pass:", *said, ran.stderr]).strip())
+    print(f"{said[-1]}, tried where it was unpacked", file=sys.stderr)
+
+
+def write(folder, is_debian=False, is_tried=True):
+    """Writes the package into a folder; the paths of what was written."""
     program, commit, name = proved_program(), committed(), toolchain()
     entries = entries_of(files(), proved_text(commit, name, program), program)
     packed = f"rewind-{commit.version}-linux-x86_64"
-    whole = archive(packed, entries, commit.seconds)
     os.makedirs(folder, exist_ok=True)
     path = os.path.join(folder, f"{packed}.tar.gz")
-    with open(f"{path}.part", "wb") as it:
-        it.write(whole)
-    os.replace(f"{path}.part", path)
-    return path
+    with tempfile.TemporaryDirectory(dir=folder) as room:
+        made = os.path.join(room, os.path.basename(path))
+        with open(made, "wb") as it:
+            it.write(archive(packed, entries, commit.seconds))
+        if is_tried:
+            try_it(made)
+        os.replace(made, path)
+    if not is_debian:
+        return [path]
+    debian_path = os.path.join(folder, f"rewind_{commit.version}_amd64.deb")
+    debian.pack(debian_path, entries, commit, glibc_of(program))
+    return [path, debian_path]
