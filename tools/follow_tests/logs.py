@@ -162,6 +162,11 @@ HANGS = {
         ["z 3 in 0 (7) does not finish", "worker 0 holds 2 capabilities of a 1 out 0 (7)",
          "since batch 1 (w0, line 7, ns 55)", "the worker has sent no progress after that"],
     ),
+    "what many workers hold is told once": (
+        logs_of(16, [sent(p, 1, [], DROPS) for p in range(16)]),
+        ["workers 0 to 15 hold a capability of a 1 out 0 (0) worker 0: since the start; its last is batch 1",
+         "worker 7: since the start; its last is batch 1 (w7, line 13) ... (16 in all)"],
+    ),
     "what follows from it is not told": (
         logs_of(2, [sent(0, 1, [[M, 0, [0], 1]], [[A, 0, [0], -1], *DROPS]), sent(1, 1, [], DROPS),
                     sent(0, 2, [[M, 0, [0], -1]], [[M, 0, [0], 1]])]),

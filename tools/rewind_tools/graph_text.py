@@ -35,6 +35,7 @@ from typing import NamedTuple
 from rewind_tools import ports
 from rewind_tools.runs import json_of
 from rewind_tools.script import LAST, MOST_PORTS, OPS, OPTIONAL_OF_OPS
+from rewind_tools.short_names import Names
 from rewind_tools.telling import values
 from rewind_tools.telling.forms import listed, nearest
 from rewind_tools.telling.graph_faults import BEYOND, double_names, name_fault, shape_faults, unknown_names
@@ -68,8 +69,13 @@ def at_place(number, column, why):
 class Scanner:
     """One line of the text, and the position up to which the line is read."""
 
-    def __init__(self, text, number):
+    def __init__(self, text, number, any_names):
         self.text, self.number, self.at = text.rstrip(" \t\r\n"), number, 0
+        self.any_names = any_names
+
+    def name_fault(self, name):
+        """What is wrong with a name, None if nothing is."""
+        return "has no letter" if not name else None if self.any_names else name_fault(name)
 
     def wrong(self, why, at=None):
         return at_place(self.number, (self.at if at is None else at) + 1, why)
@@ -136,7 +142,7 @@ def read_name(line, of):
         odd = line.text[line.at : line.at + 1]
         if odd and odd not in ' \t([-]#"':
             raise line.wrong(f"a name with {values.shown(odd)} in it is written in quotation marks")
-    fault = "is no name" if re.search(r"[\ud800-\udfff]", name) else name_fault(name)
+    fault = "is no name" if re.search(r"[\ud800-\udfff]", name) else line.name_fault(name)
     if fault:
         wrong = f"the name {values.shown(name)} {fault}; a name has 1 to 32 bytes, each from ! to ~"
         raise line.wrong(wrong, begin)
@@ -248,7 +254,7 @@ def read_ports(line, parts, name, begin):
             given[key] = read_flag(line, key) if key in FLAGS else read_number(line, key)
     made = made._replace(starts=given.pop("starts", True))
     for it in [*made.vertices(0), *made.edges]:
-        if name_fault(it["name"]):
+        if line.name_fault(it["name"]):
             raise line.wrong(f"the name {it['name']} {name_fault(it['name'])}: {name} is too long", begin)
         parts.name(it["name"], line, begin)
     for it in made.vertices(0):
@@ -297,7 +303,7 @@ def read_path(line, parts):
         end = read_vertex(line, parts)
         ends = {"from": start, "port": given.get("port", 0), "to": end, "into": given.get("to", 0)}
         name = given.get("name", ports.plain_name(parts.operators, ends))
-        if "name" not in given and name_fault(name):
+        if "name" not in given and line.name_fault(name):
             why = f"the name {name} of the edge {name_fault(name)}; give another, as --[NAME]-->"
             raise line.wrong(why, begin)
         parts.name(name, line, begin, "; give another, as --[NAME]-->")
@@ -345,11 +351,12 @@ def depths(ops, edges, given):
     return known
 
 
-def read(lines, first=1):
-    """The graph of a text's lines, of which the first has this number."""
+def read(lines, first=1, any_names=False):
+    """The graph of a text's lines, of which the first has this number; with any names, or those that the
+    program takes."""
     parts = Parts()
     for number, text in enumerate(lines, first):
-        line = Scanner(text, number)
+        line = Scanner(text, number, any_names)
         if line.text.startswith("{"):
             raise line.wrong("an empty line ends the graph, and comes before the lines of the script")
         if not line.is_at_end():
@@ -445,12 +452,13 @@ class Printing:
 
 def text_of(graph):
     """The text of a graph's value."""
-    faults = shape_faults(graph, LAST) or double_names(graph) or unknown_names(graph)
+    short = Names(graph).graph
+    faults = shape_faults(short, LAST) or double_names(short) or unknown_names(short)
     if faults:
         raise Wrong("; ".join(faults[:MOST_FAULTS]))
     by_ports = printed(ports.folded(graph))
     with contextlib.suppress(Wrong):
-        if read(by_ports.split("\n")) == graph:
+        if read(by_ports.split("\n"), any_names=True) == graph:
             return by_ports
     return printed(ports.folded(graph, {}))
 
@@ -487,10 +495,10 @@ def graph_at(lines):
     return next(found, None) if isinstance(value, dict) and value.keys() == {"version"} else first
 
 
-def graph_and_end(lines, begin):
+def graph_and_end(lines, begin, any_names=False):
     """The graph of a text that begins at a position of a script's lines, and where the text ends."""
     end = next((at for at in range(begin, len(lines)) if not lines[at].strip()), len(lines))
-    graph = read([it.decode(errors="replace") for it in lines[begin:end]], begin + 1)
+    graph = read([it.decode(errors="replace") for it in lines[begin:end]], begin + 1, any_names)
     after = next((at for at in range(end, len(lines)) if not is_left_out(lines[at])), None)
     if after is not None and is_text(lines[after]):
         why = f"the graph ends at the empty line {end + 1}, and no path comes after that"
@@ -498,14 +506,14 @@ def graph_and_end(lines, begin):
     return graph, end
 
 
-def with_json(script):
+def with_json(script, any_names=False):
     """A script's bytes with the graph's line in place of a text of paths, and blank lines, so that all other
     lines have their numbers; the same bytes, if the graph is no text."""
     lines = script.split(b"\n")
     begin = graph_at(lines)
     if begin is None or not is_text(lines[begin]):
         return script
-    graph, end = graph_and_end(lines, begin)
+    graph, end = graph_and_end(lines, begin, any_names)
     head = [b"" if is_left_out(it) else it for it in lines[:begin]]
     text = [json_of_graph(graph).encode(), *[b""] * (end - begin - 1)]
     return b"\n".join(head + text + lines[end:])

@@ -88,10 +88,11 @@ def read_bytes(path):
         return it.read()
 
 
-def read_script(path):
-    """A script's bytes, the graph as JSON if it is written as paths."""
+def read_script(path, any_names=False):
+    """A script's bytes, the graph as JSON if it is written as paths: with any names, or those that the
+    program takes."""
     try:
-        return graph_text.with_json(read_bytes(path))
+        return graph_text.with_json(read_bytes(path), any_names)
     except graph_text.Wrong as wrong:
         raise Fault(f"{path}: {wrong}") from wrong
 

@@ -72,6 +72,18 @@ class Run:
     def status(self):
         return self.ending.status if self.is_read else UNREADABLE
 
+    @property
+    def known(self):
+        """What the short names of the program stand for."""
+        return {short: it for it, short in self.program.names.short.items()}
+
+    def place(self, line):
+        """Where a line comes from: its file, its number, and its note."""
+        trace = self.traces[line.worker]
+        text = trace.text(line.number)
+        note = trace.value(line.number).get("note") if b'"note"' in text else None
+        return {"file": trace.path, "line": line.number, **({} if note is None else {"note": note})}
+
     def left(self):
         if not self.is_read or self.ending.name != FOLLOWED:
             return []

@@ -11,7 +11,7 @@ import json
 from rewind_tools.at_rest import why_at_rest
 from rewind_tools.following.since import held_since
 from rewind_tools.telling import reasons
-from rewind_tools.telling.commands import at, counted, record, some_of, time_in
+from rewind_tools.telling.commands import at, counted, processors, record, some_of, time_in
 from rewind_tools.telling.printing import BOLD
 
 # How many that hold something are told.
@@ -64,45 +64,66 @@ def known(words, query):
 
 
 def told(words, answers, head, indent):
-    """What is held at rest: what that holds back, what holds back most first; since which line; and the last
-    line of its processor."""
+    """What is held at rest, what holds back most first, that of several processors together: what that holds
+    back, and since which line."""
     found, state = {}, words.program.asked({"do": "state"})["state"]
     for query, reply in answers:
         for reason in reply["reasons"]:
             for it in reason["held"]:
                 key = json.dumps([it, reason["point"]])
                 found.setdefault(key, [it, reason["point"], []])[2].append([query["at"], query["time"]])
-    listed = sorted(found.values(), key=lambda it: -len(it[2]))
-    since = held_since(words.follower, state, [it[:2] for it in listed[:MOST]])
-    last = {it.worker: it for it in words.follower.executed}
+    rows = {}
+    for held, point, points in sorted(found.values(), key=lambda it: -len(it[2])):
+        key = json.dumps([{**held, "p": 0, "n": 1}, point, points])
+        rows.setdefault(key, []).append([held, point, points])
     said = []
-    for (held, point, points), made in zip(words.epochs.told(listed), since):
-        back = f"{some_of(at(*it) for it in points)} {'is' if len(points) == 1 else 'are'} not finished"
-        said.append((f"{head}{held_words(held, point, made.record, words)}; so {back}", indent, BOLD))
-        said += [(it, indent + 4, "") for it in since_words(words, made.line, last.get(held["p"]))]
-    more = [(f"... ({len(listed)} in all)", indent, "")] if len(listed) > MOST else []
+    for its in list(rows.values())[:MOST]:
+        said += row_words(words, state, its, head, indent)
+    more = [(f"... ({len(rows)} in all)", indent, "")] if len(rows) > MOST else []
     return said + more
 
 
-def held_words(held, point, left, words):
+def row_words(words, state, its, head, indent):
+    """What one processor holds, or several at one point: of each since which line, and its last line."""
+    since = held_since(words.follower, state, [it[:2] for it in its])
+    rows = {}
+    for (held, point, points), made in zip(words.epochs.told(its), since):
+        rows.setdefault(made.record and made.record[2:], []).append((held, point, points, made))
+    last = {it.worker: it for it in words.follower.executed}
+    for row in rows.values():
+        held, point, points, made = row[0]
+        workers = [it[0]["p"] for it in row]
+        back = f"{some_of(at(*it) for it in points)} {'is' if len(points) == 1 else 'are'} not finished"
+        yield f"{head}{held_words(workers, held, point, made.record, words)}; so {back}", indent, BOLD
+        yield from ((it, indent + 4, "") for it in since_words(words, row, last))
+
+
+def held_words(workers, held, point, left, words):
     """What is held, and by whom; of a capability that comes at rest alone the record that leads to it."""
+    who, s, have = processors(workers), "s" * (len(workers) == 1), "have" if workers[1:] else "has"
     if left:
-        edge, p, time, value = left
+        edge, _, time, value = left
         there = at(*words.epochs.told([edge, list(time)]))
-        return f"processor {p} has not taken a {record(value)} at {there}"
+        return f"{who} {have} not taken a {record(value)} at {there}"
     if "token" in held:
-        return f"processor {held['p']} has its input {held['token']} open at {time_in(point[1])}"
+        its = "its input" if s else "their inputs"
+        return f"{who} {have} {its} {held['token']} open at {time_in(point[1])}"
     if "edge" in held:
-        return f"processor {held['p']} cannot take a {record(held['value'])} at {at(*point)}"
-    return f"processor {held['p']} holds a capability at {at(*point)}"
+        return f"{who} cannot take a {record(held['value'])} at {at(*point)}"
+    return f"{who} hold{s} a capability at {at(*point)}"
 
 
-def since_words(words, line, last):
-    """Since which line something is held, and the last line of the processor."""
-    if line is None:
-        yield "since the start"
-    else:
-        yield from words.place("since ", line)
-    if last is not None:
-        path = words.traces[last.worker].path
-        yield f"the last line of processor {last.worker} is {path}, line {last.number}"
+def since_words(words, row, last):
+    """Since which line something is held, and the last line of the processor; of several processors in a
+    line each."""
+    if len(row) == 1:
+        made, line = row[0][3], last.get(row[0][0]["p"])
+        yield from words.place("since ", made.line) if made.line else ["since the start"]
+        yield from [f"the last line of processor {line.worker} is {words.where(line)}"] if line else []
+        return
+    for held, _, _, made in row[:MOST]:
+        line = last.get(held["p"])
+        since = words.where(made.line) if made.line else "the start"
+        ended = f"; its last line is {words.where(line)}" if line else ""
+        yield f"processor {held['p']}: since {since}{ended}"
+    yield from [f"... ({len(row)} in all)"] if len(row) > MOST else []

@@ -1,10 +1,10 @@
 """What a run leaves at its end, worker by worker.
 
     left_of(state, graph)      a Left for each worker, from the reply to 'state'
-    left_words(left)           the same in sentences, one for each worker that leaves something"""
+    left_words(left)           the same in sentences, with what several workers leave in one"""
 from typing import NamedTuple
 
-from rewind_tools.telling.commands import at, counted, some_of
+from rewind_tools.telling.commands import at, counted, processors, some_of
 
 # The operators at which a request is a held capability.
 HOLDING = ("hold", "opaque")
@@ -48,13 +48,26 @@ def parts_of(left):
     yield "requested notifications", [at(*it) for it in left.notifications]
     yield "records", [record_words(it) for it in left.records]
     yield "not broadcast", [f"{at(*it[:2])}: {it[2]}" for it in left.unsent]
-    yield "not received", [f"{counted(n, 'update')} from processor {p}" for p, n in left.underway]
+    yield "not received", updates_words(left.underway)
+
+
+def updates_words(underway):
+    """How many updates are on their way, and from whom."""
+    senders = {}
+    for p, n in underway:
+        senders.setdefault(n, []).append(p)
+    for n, its in senders.items():
+        yield f"{counted(n, 'update')} from {'each of ' if its[1:] else ''}{processors(its)}"
 
 
 def left_words(left):
-    said = []
+    """A sentence for each worker, or for several of what they all have left."""
+    having, rows = {}, {}
     for worker, it in enumerate(left):
-        parts = [f"{word}: {some_of(items)}" for word, items in parts_of(it) if items]
-        if parts:
-            said.append(f"processor {worker}, " + "; ".join(parts))
-    return said
+        for word, items in parts_of(it):
+            key = word, tuple(items)
+            having.setdefault(key, []).append(worker)
+    for (word, items), workers in having.items():
+        if items:
+            rows.setdefault(tuple(workers), []).append(f"{word}: {some_of(items)}")
+    return [f"{processors(workers)}, {'; '.join(parts)}" for workers, parts in rows.items()]

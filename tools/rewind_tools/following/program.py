@@ -5,10 +5,14 @@
     program.ask([b"..", b".."])                 the reply to each line, as bytes
     program.asked({"do": "state"})              the reply to one line, as a value
     program.again([b"..", ..])                  a new process, which executes these lines first
-    program.close()"""
+    program.close()
+
+The program takes short names alone: it is given one for each other name of the graph (short_names.py)."""
+import json
 import time
 
 from rewind_tools.session import Session, VersionRefused
+from rewind_tools.short_names import Names
 from rewind_tools.telling.faults import faulty
 from rewind_tools.telling.graph_faults import graph_faults
 from rewind_tools.tool import Fault
@@ -31,13 +35,14 @@ class GraphRefused(Exception):
 
 class Program:
     def __init__(self, graph, workers, on_note):
-        self.graph, self.words = graph, ["--processors", str(workers)]
+        self.graph, self.names = graph, Names(graph)
+        self.words = ["--processors", str(workers)]
         self.start(on_note)
         self.session = self.opened()
         self.version, reply = self.session.version, self.session.started
         if "error" in reply:
             self.close()
-            raise GraphRefused(*faulty(reply, graph_faults(graph, reply, self.version)))
+            raise GraphRefused(*faulty(reply, graph_faults(self.names.graph, reply, self.version)))
 
     def start(self, on_note):
         self.on_note, self.noted = on_note, set()
@@ -46,10 +51,10 @@ class Program:
     def opened(self):
         for version in VERSIONS[:-1]:
             try:
-                return Session(self.graph, self.words, version, self.note)
+                return Session(self.names.graph, self.words, version, self.note)
             except VersionRefused:
                 pass
-        return Session(self.graph, self.words, VERSIONS[-1], self.note)
+        return Session(self.names.graph, self.words, VERSIONS[-1], self.note)
 
     def note(self, text):
         """Passes a note of ./rewind on, once for all processes."""
@@ -64,10 +69,12 @@ class Program:
             self.on_note(f"follow: {done:,} of {count:,} lines {what} so far")
 
     def ask(self, texts):
-        return self.session.ask_lines(texts)
+        if not self.names.short:
+            return self.session.ask_lines(texts)
+        return list(map(self.names.told, self.session.ask_lines(list(map(self.names.given, texts)))))
 
     def asked(self, value):
-        return self.session.ask(value)
+        return json.loads(self.ask([json.dumps(value, separators=(",", ":")).encode()])[0])
 
     def again(self, texts):
         """Executes lines that were executed before in a new process, whose log has room."""

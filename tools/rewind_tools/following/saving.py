@@ -1,10 +1,13 @@
-"""The merged run as a script, and where each of its lines stands in the traces.
+"""The merged run as a script, and where each of its lines stands in the traces or logs.
 
-    write(path, run)      writes the script, and path.lines
+    write(path, run)      writes the script of a followed run, and path.lines
 
-path.lines has one JSON object per line: {"epoch":1790000000250,"rank":1} for each epoch, and then for each
-line of the script after the graph's {"script":3,"file":"worker-0.jsonl","line":1}, with its note if it has
-one."""
+`run` has the program, the follower and the epochs; run.place(line) is where a line comes from, and run.known
+what the names of the script stand for.
+
+path.lines has one JSON object per line: {"epoch":1790000000250,"rank":1} for each epoch, {"name":"total-2",
+"is":"total 2"} for each name that stands for another, and then for each line of the script after the graph's
+{"script":3,"file":"worker-0.jsonl","line":1}, with its note if it has one."""
 import json
 
 from rewind_tools.session import write_text
@@ -15,19 +18,12 @@ def compact(value):
 
 
 def write(path, run):
-    executed, opening = run.follower.executed, [{"version": run.program.version}, run.program.graph]
-    script = [compact(it) for it in opening] + [it.text.decode() for it in executed]
+    names, executed = run.program.names, run.follower.executed
+    opening = [{"version": run.program.version}, names.graph]
+    script = [compact(it) for it in opening] + [names.given(it.text).decode() for it in executed]
     write_text(path, "".join(f"{it}\n" for it in script))
     lines = [{"epoch": epoch, "rank": rank} for rank, epoch in enumerate(run.epochs.order)]
+    lines += [{"name": name, "is": it} for name, it in run.known.items()]
     for number, it in enumerate(executed, len(opening) + 1):
-        lines.append(place_of(number, it, run.traces[it.worker]))
+        lines.append({"script": number, **run.place(it)})
     write_text(f"{path}.lines", "".join(f"{compact(it)}\n" for it in lines))
-
-
-def place_of(number, line, trace):
-    place = {"script": number, "file": trace.path, "line": line.number}
-    text = trace.text(line.number)
-    if b'"note"' in text:
-        note = trace.value(line.number).get("note")
-        place.update({} if note is None else {"note": note})
-    return place

@@ -11,11 +11,13 @@ from rewind_tools.following.endings import DIFFERS, FOLLOWED, INCOMPLETE, TOO_LO
 from rewind_tools.following.traces import own_of
 from rewind_tools.telling import names
 from rewind_tools.telling.answers import Teller
-from rewind_tools.telling.commands import WORDS, at, counted, some_of, time_in
+from rewind_tools.telling.commands import WORDS, at, counted, processors, some_of, time_in
 from rewind_tools.telling.printing import BOLD, RED
 from rewind_tools.telling.values import shown
 
 WAITS = "waits"
+# How many lines that wait are told one by one.
+MOST_WAITS = 4
 
 
 class Words:
@@ -41,9 +43,12 @@ class Words:
             said.append(("the traces wait for each other: no line of them can be executed next", 0, BOLD))
         for wrong in ending.wrongs:
             said += self.wrong(wrong, wrong.ending)
-        for wrong in ending.waits:
+        for wrong in ending.waits[:MOST_WAITS]:
             is_first = not ending.wrongs and wrong is ending.waits[0] and ending.name != INCOMPLETE
             said += self.wrong(wrong, wrong.ending if is_first else WAITS)
+        if ending.waits[MOST_WAITS:]:
+            others = processors(it.line.worker for it in ending.waits[MOST_WAITS:])
+            said.append((f"{WAITS}: the next lines of {others}", 0, BOLD))
         return said + (self.left_out() if ending.name != INCOMPLETE else []) + self.how_far(ending)
 
     def wrong(self, wrong, how):
@@ -65,11 +70,14 @@ class Words:
 
     def place(self, how, line):
         """Where a line is, in words, and its note."""
-        trace = self.traces[line.worker]
-        value = trace.value(line.number)
+        value = self.traces[line.worker].value(line.number)
         note = own_of(value).get("note")
-        said = f"{how}{trace.path}, line {line.number}: {WORDS[value['do']](value)}"
+        said = f"{how}{self.where(line)}: {WORDS[value['do']](value)}"
         return [said] if note is None else [said, f"note: {note}"]
+
+    def where(self, line):
+        """Where a line is."""
+        return f"{self.traces[line.worker].path}, line {line.number}"
 
     def refusal(self, line, value, reply):
         """A refusal: its number, its name, what stands in the way, and what else helps."""

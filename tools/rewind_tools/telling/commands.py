@@ -1,4 +1,6 @@
 """The commands and queries of a script in words."""
+import itertools
+
 from rewind_tools.ports import operators_of, ports_of
 from rewind_tools.script import literals_in
 from rewind_tools.telling.forms import listed
@@ -42,9 +44,16 @@ def some_of(items):
 
 
 def processors(numbers):
-    """Some processors by their numbers, each once."""
+    """Some processors by their numbers, each once; four or more that follow one another as '0 to 3'."""
     numbers = sorted(set(numbers))
-    return f"processor{'s' * (len(numbers) > 1)} {listed(map(str, numbers))}"
+    return f"processor{'s' * (len(numbers) > 1)} {listed(spans(numbers))}"
+
+
+def spans(numbers):
+    """Numbers in their order, four or more that follow one another as one text."""
+    groups = itertools.groupby(numbers, lambda it, count=itertools.count(): it - next(count))
+    for group in (list(its) for _, its in groups):
+        yield from [f"{group[0]} to {group[-1]}"] if len(group) > 3 else map(str, group)
 
 
 def processor_of(step):

@@ -3,7 +3,6 @@
     run = Run(["log0.jsonl", "log1.jsonl"], on_note)      Misread, if the logs cannot be followed
     run.follow()
     run.ending                    an Ending of following/endings.py, of the steps
-    run.save(path)
     run.close()"""
 import time
 
@@ -13,8 +12,6 @@ from rewind_tools.following.epochs import Epochs
 from rewind_tools.following.merging import Merging
 from rewind_tools.following.places import Places
 from rewind_tools.following.program import GraphRefused, Program
-from rewind_tools.following.saving import compact
-from rewind_tools.session import write_text
 from rewind_tools.timely import logs
 from rewind_tools.timely.batches import Progress
 from rewind_tools.timely.dataflow import Dataflow
@@ -77,15 +74,10 @@ class Run:
         self.follower.follow()
         self.ending = ending_of(self.follower, self.logs)
 
-    def save(self, path):
-        """Writes the steps as a script, and where each comes from."""
-        executed, opening = self.follower.executed, [{"version": self.program.version}, self.program.graph]
-        script = [compact(it) for it in opening] + [it.text.decode() for it in executed]
-        write_text(path, "".join(f"{it}\n" for it in script))
-        lines = [{"epoch": epoch, "rank": rank} for rank, epoch in enumerate(self.epochs.order)]
-        for number, it in enumerate(executed, len(opening) + 1):
-            lines.append({"script": number, **self.place(it)})
-        write_text(f"{path}.lines", "".join(f"{compact(it)}\n" for it in lines))
+    @property
+    def known(self):
+        """What the names of the script's vertices stand for."""
+        return {it.vertex: it.words for it in self.dataflow.ports.values()}
 
     def place(self, step):
         """The batch of a step: its file, its line, and its number."""

@@ -6,10 +6,10 @@
 Workers, operators, ports, times and batches have the names and numbers that they have in the logs."""
 from rewind_tools.following.checking import MOST_STEPS
 from rewind_tools.following.endings import DIFFERS, FOLLOWED, INCOMPLETE, REFUSED, TOO_LONG
-from rewind_tools.telling.commands import FIRM, at, counted, some_of
+from rewind_tools.telling.commands import FIRM, MOST, at, counted, processors, some_of
 from rewind_tools.telling.forms import listed
 from rewind_tools.telling.printing import BOLD, RED
-from rewind_tools.timely.answering import HANG, MESSAGE, last_batch, silent_first, unheard_of
+from rewind_tools.timely.answering import CAPABILITY, HANG, MESSAGE, last_batch, silent_first, unheard_of
 
 
 def there(port, time):
@@ -25,6 +25,19 @@ def batch_words(batch):
     """A batch by its number, with the place of its line."""
     ns = "" if batch.ns is None else f", ns {batch.ns}"
     return f"batch {batch.seq_no} ({place(batch.log, batch.line)}{ns})"
+
+
+def since_words(batch):
+    return batch_words(batch) if batch else "the start"
+
+
+def capabilities(it):
+    what = "a capability" if it.count == 1 else f"{it.count} capabilities"
+    return f"{what} of {there(it.port, it.time)}"
+
+
+def workers(numbers):
+    return processors(numbers).replace("processor", "worker")
 
 
 def verb(count):
@@ -58,20 +71,22 @@ class Words:
     def hang(self, answer):
         if not answer.questions and not self.planner.untold:
             said = [("hang: no sink waits, but the dataflow does not end", 0, BOLD)]
-            return said + [line for it in answer.left for line in self.reason(it)]
+            return said + self.reasons(answer.left)
         ends = [there(it.sink, it.time) for it in answer.questions]
         head = f"{some_of(ends)} {'does' if len(ends) == 1 else 'do'} not finish" if ends else "messages"
         return [(f"hang: {head}", 0, BOLD), *self.held_back(answer)]
 
     def held_back(self, answer):
-        """What holds the sinks back: first what follows from nothing else."""
+        """What holds the sinks back: first what follows from nothing else; for several sinks together."""
         said = [line for it in self.planner.untold for line in self.untold(it)]
-        for number, it in enumerate(answer.questions):
-            earlier = next((old for old in answer.questions[:number] if old.reasons == it.reasons), None)
-            if earlier:
-                said.append((f"{there(it.sink, it.time)} waits for the same", 2, ""))
-            else:
-                said += self.question(it)
+        left = list(answer.questions)
+        while left:
+            first, *others = left
+            same = [there(it.sink, it.time) for it in others if it.reasons == first.reasons]
+            left = [it for it in others if it.reasons != first.reasons]
+            said += self.question(first)
+            if same:
+                said.append((f"{some_of(same)} wait{'s' * (len(same) == 1)} for the same", 2, ""))
         return said
 
     def why(self, it):
@@ -94,18 +109,34 @@ class Words:
         if it.stop != "rest":
             why = "not all that is under way could arrive, so some of this may merely follow from the rest"
             said.append((why, 4, RED))
-        return said + [line for reason in it.reasons for line in self.reason(reason)]
+        return said + self.reasons(it.reasons)
 
-    def reason(self, it):
-        return self.message(it) if it.kind == MESSAGE else self.capability(it)
+    def reasons(self, reasons):
+        """The reasons, with the workers that hold the same together."""
+        rows = {}
+        for it in reasons:
+            rows.setdefault((it.kind, it.port, it.time, it.count), []).append(it)
+        of_kind = {MESSAGE: lambda its: self.message(its[0]), CAPABILITY: self.held}
+        return [line for (kind, *_), its in rows.items() for line in of_kind[kind](its)]
+
+    def held(self, its):
+        """The capabilities that one worker holds, or several."""
+        if len(its) == 1:
+            return self.capability(its[0])
+        said = [(f"{workers(it.worker for it in its)} hold {capabilities(its[0])}", 4, RED)]
+        for it in its[:MOST]:
+            last = last_batch(self.run, it.worker)
+            since = it.since[0] if it.since else None
+            ended = "nothing after that" if last is since else f"its last is {batch_words(last)}"
+            said.append((f"worker {it.worker}: since {since_words(since)}; {ended}", 8, ""))
+        return said + ([(f"... ({len(its)} in all)", 8, "")] if its[MOST:] else [])
 
     def capability(self, it):
         """The capabilities that a worker holds, since when, and whether it went on after that."""
-        what = "a capability" if it.count == 1 else f"{it.count} capabilities"
-        said = [(f"worker {it.worker} holds {what} of {there(it.port, it.time)}", 4, RED)]
+        said = [(f"worker {it.worker} holds {capabilities(it)}", 4, RED)]
         last = last_batch(self.run, it.worker)
         since = it.since[0] if it.since else None
-        said.append((f"since {batch_words(since) if since else 'the start'}", 8, ""))
+        said.append((f"since {since_words(since)}", 8, ""))
         if last is since:
             said.append(("the worker has sent no progress after that", 8, ""))
         else:
