@@ -5,9 +5,11 @@ note for each (following/saving.py).
                                          or if the script has other lines
     words_of(places[5])                  "worker-0.jsonl, line 3; note: main.rs:12"
     with_place("step 3: ..", place)      words with the place that belongs to them, if there is one
-    marks_of("run.jsonl")                by the number of a step, or "end", what was refused after it: the
-                                         worker and a text; FILE.lines has lines for that, as
+    marks_of("run.jsonl")                what was refused: the number of the step before it, or "end", the
+                                         worker, and a text; FILE.lines has lines for that, as
                                          {"refused":"end","worker":1,"text":"line 7: .."}
+    verdict_of("run.jsonl")              how the run ended, in words, from a line {"verdict":".."}; or ""
+    of_page("run.jsonl")                 all three for a page
     remove_others(path, places)          removes the places of a script that is overwritten"""
 import contextlib
 import json
@@ -26,13 +28,23 @@ def places_of(path):
 
 
 def marks_of(path):
-    marks = {}
+    marked = values_of(path, b'{"refused":')
+    return [(it["refused"], it["worker"], it["text"]) for it in marked]
+
+
+def verdict_of(path):
+    return "\n".join(it["verdict"] for it in values_of(path, b'{"verdict":'))
+
+
+def of_page(path):
+    return {"marks": marks_of(path), "places": places_of(path), "verdict": verdict_of(path)}
+
+
+def values_of(path, begin):
+    """The lines of FILE.lines that begin so, as values."""
     with contextlib.suppress(OSError, ValueError), open(f"{path}.lines", "rb") as lines:
-        for it in lines:
-            if it.startswith(b'{"refused":'):
-                value = json.loads(it)
-                marks[value["refused"]] = value["worker"], value["text"]
-    return marks
+        return [json.loads(it) for it in lines if it.startswith(begin)]
+    return []
 
 
 def words_of(place):

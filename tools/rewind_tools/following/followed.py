@@ -9,7 +9,7 @@
     run.close()"""
 from rewind_tools.following import unreadable
 from rewind_tools.following.checking import Follower
-from rewind_tools.following.endings import FOLLOWED, UNREADABLE, ending_of
+from rewind_tools.following.endings import FOLLOWED, INCOMPLETE, UNREADABLE, ending_of
 from rewind_tools.following.epochs import Epochs
 from rewind_tools.following.hang import why_words
 from rewind_tools.following.left import left_of, left_words
@@ -45,9 +45,9 @@ class Run:
             self.fault = fault
             return unreadable.said(fault, self.program, len(self.traces))
         self.ending = ending_of(self.follower, self.traces)
-        words = Words(self.follower, self.traces, self.epochs, self.program)
-        said = words.of(self.ending)
-        return said + why_words(words, *self.asked) if self.asked else said
+        self.words = Words(self.follower, self.traces, self.epochs, self.program)
+        said = self.words.of(self.ending)
+        return said + why_words(self.words, *self.asked) if self.asked else said
 
     def ask(self, worker, location, time):
         """Asks why a time is not finished for a worker; returns what is wrong with the question, if anything
@@ -71,6 +71,13 @@ class Run:
     @property
     def status(self):
         return self.ending.status if self.is_read else UNREADABLE
+
+    @property
+    def marks(self):
+        """What was refused, or differs: the worker, and why."""
+        wrongs = self.ending.wrongs or (self.ending.waits[:1] if self.ending.name != INCOMPLETE else [])
+        for it in wrongs:
+            yield it.line.worker, "; ".join(text for text, *_ in self.words.wrong(it, it.ending))
 
     @property
     def known(self):

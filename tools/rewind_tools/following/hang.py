@@ -114,8 +114,8 @@ def held_words(workers, held, point, left, words):
 
 
 def since_words(words, row, last):
-    """Since which line something is held, and the last line of the processor; of several processors in a
-    line each."""
+    """Since which line something is held, and the last line of the processor; of several processors, each
+    in its own."""
     if len(row) == 1:
         made, line = row[0][3], last.get(row[0][0]["p"])
         yield from words.place("since ", made.line) if made.line else ["since the start"]

@@ -102,7 +102,7 @@ class Live:
             if why:
                 refused.append(why)
                 self.mark_refused(entry, last, why)
-        for step, it in (marks or {}).items():
+        for step, *it in marks or ():
             self.pictures.mark(self.kept if step == "end" else step, *it)
         self.journal.report, self.journal.may_go_on = self.show_progress, lambda: not self.is_cancelled
         return refused

@@ -31,7 +31,7 @@ KEYS = {
 WORDS = {
     "live": {
         "back": "undo the last step", "redo": "execute the next kept step again", "on": "redo",
-        "conditions": "Conditions", "changed": "changed by the last step",
+        "conditions": "Conditions", "changed": "changed by the last step", "verdict": "",
     },
     "recorded": {
         "back": "one position back", "redo": "one position forward", "on": "forward",

@@ -128,7 +128,7 @@ const source = {
 
 function opening() {
   const at = Number.parseInt(location.hash.slice(1), 10);
-  return Number.isNaN(at) ? 0 : at;
+  return Number.isNaN(at) ? about.opens : at;
 }
 
 by("goto").addEventListener("submit", (event) => {

@@ -82,7 +82,7 @@ class Copy:
 
     def mark(self, marks, last):
         """Marks what was refused after steps, and after the last one."""
-        for step, it in marks.items():
+        for step, *it in marks:
             self.pictures.mark(last if step == "end" else step, *it)
 
     def note_step(self, value, reply, place):
@@ -238,16 +238,24 @@ def embedded(value):
     return text.replace("<", "\\u003c").replace(">", "\\u003e").replace("&", "\\u0026")
 
 
+def verdict_of(text, marks):
+    """The section of a verdict, its first line in red if something was refused."""
+    first, *others = escape(text).split("\n")
+    said = "\n".join([f'<b class="{"bad" if marks else "good"}">{first}</b>', *others])
+    return f'<section id="verdict"><h2>How it ended</h2><pre>{said}</pre></section>\n' if text else ""
+
+
 def last_kept(told):
     """How many steps a run has kept at its end."""
     return next((it.reply["kept"] for it in reversed(told.entries) if "kept" in it.reply), 0)
 
 
 # tools/follow makes the page of a trace by this: `script` is the merged run, `marks` what was refused.
-def page_of(name, script, words, uses_dot=True, report=lambda text: None, marks=None, places=None):
-    """The page of a script's run, and the run. `marks` has what was refused, which is shown in red: by the
-    number of the step before it, or "end", the worker and a text (worker, text). `places` has by the number
-    of a line of the script where that comes from, as bytes (rewind_tools/sources.py)."""
+def page_of(name, script, words, uses_dot=True, report=lambda text: None, marks=(), places=None, verdict=""):
+    """The page of a script's run, and the run. `marks` has what was refused, which is shown in red: the
+    number of the step before it, or "end", the worker and a text. `places` has by the number of a line of
+    the script where that comes from, as bytes (rewind_tools/sources.py). The verdict is what was said of a
+    run that was followed; with one the page opens at its end."""
     told = run_script(script, words, ())
     start = next((it.reply for it in told.entries if "locations" in it.reply), {})
     has_form = start or any("location" in it.reply for it in told.entries[:1])
@@ -256,10 +264,11 @@ def page_of(name, script, words, uses_dot=True, report=lambda text: None, marks=
     none = {"graph": "<p>The program has read no graph.</p>", "size": "", "loops": ""}
     drawn = graph_of(graph, count, uses_dot) if has_form else none
     about = {"processors": count, "places": places_of(graph), "name": name}
-    run = recorded(told, script, words, report, marks or {}, places or {})
+    run = recorded(told, script, words, report, marks, places or {})
+    about["opens"] = len(run["ats"]) - 1 if verdict else 0
     values = {
         "title": escape(f"{name}, {counted(count, 'processor')}" if start else name),
-        "command": escape(" ".join(["rewind", *words, "<", name])),
+        "command": escape(" ".join(["rewind", *words, "<", name])), "verdict": verdict_of(verdict, marks),
         "about": escape(json.dumps(about)), **drawn, "last": str(len(run["ats"]) - 1),
         "style": f"<style>\n{part('page.css')}</style>",
         "scripts": f'<script type="application/json" id="recorded">{embedded(run)}</script>\n<script>\n'

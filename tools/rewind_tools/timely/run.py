@@ -16,6 +16,7 @@ from rewind_tools.timely import logs
 from rewind_tools.timely.batches import Progress
 from rewind_tools.timely.dataflow import Dataflow
 from rewind_tools.timely.planning import NoOrder, Planner
+from rewind_tools.timely.words import Words
 
 
 # How many seconds pass before it is said how far the work is; then it is said after that many times as long.
@@ -73,6 +74,13 @@ class Run:
         self.follower = Follower(self.program, merging)
         self.follower.follow()
         self.ending = ending_of(self.follower, self.logs)
+
+    @property
+    def marks(self):
+        """What was refused, or differs: the worker, and why."""
+        wrongs = self.ending.wrongs or self.ending.waits
+        for it in wrongs:
+            yield it.line.worker, "; ".join(text for text, *_ in Words(self).wrong(it))
 
     @property
     def known(self):
