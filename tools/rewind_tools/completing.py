@@ -6,7 +6,7 @@ from rewind_tools.script import ATOMS, FORMS, HOLDING, NEXTS, USERS
 from rewind_tools.typed import JOINTS, NotTyped, wanted, words_of_line
 
 # The prompt's own words that take the values of a word of the script.
-LIKE = {"until": "break", "next": "run"}
+LIKE = {"until": "break", "finish": "break", "next": "run"}
 # The operators of the vertices that a command or a condition takes.
 OPS = {
     "feed": ["input"], "send": ["opaque"], "release": HOLDING, "notice": ["sum", "distinct"],

@@ -4,13 +4,14 @@ import json
 import signal
 import sys
 
-from rewind_tools import opening, second
-from rewind_tools.journal import Journal
+from rewind_tools import finishing, opening, second
+from rewind_tools.journal import Journal, Stopped
 from rewind_tools.script import STEPS
 from rewind_tools.telling import faults, names
 from rewind_tools.telling.answers import Teller
 from rewind_tools.telling.commands import FIRM, command_words, counted
 from rewind_tools.telling.effects import effect_words
+from rewind_tools.telling.reasons import rest_words
 from rewind_tools.telling.table import queues_and_sinks, table
 from rewind_tools.tool import Progress
 from rewind_tools.typed import NotTyped
@@ -50,6 +51,7 @@ class Debugger:
         self.journal.report, self.journal.may_go_on = self.progress.report, lambda: not self.stop.is_asked
         self.second = second.Second(self.journal, self.progress.report)
         self.stop = Stop(is_terminal, self.second.stop)
+        self.rounds = finishing.Rounds()
         graph = names.Graph(session.graph, session.version)
         self.teller = Teller(graph, session.started["processors"], False, session.version)
 
@@ -76,10 +78,10 @@ class Debugger:
         if self.is_raw:
             self.say_json(reply)
         else:
-            for sentence in self.answer(value, reply):
+            for sentence in [*self.at_rest(value, reply), *self.answer(value, reply)]:
                 self.say(sentence)
         self.keep_breaks(value, reply)
-        if not self.is_raw and value.get("do") in ("back", "redo", "jump"):
+        if not self.is_raw and value.get("do") in ("back", "redo", "jump", "run"):
             self.say_place()
         if gone:
             self.note_discarded(gone, before)
@@ -89,10 +91,32 @@ class Debugger:
             self.show_state(reply["state"])
 
     def say_place(self):
-        """Says where the step before the cursor comes from, if a trace has it."""
+        """Says where the step before the cursor comes from, if a trace has it, and that the run went round a
+        loop."""
         said = f"step {self.at} is"
         if (told := self.journal.with_place(self.at, said)) != said:
             self.say(told)
+        if self.rounds.at(self.at):
+            self.say(self.rounds.at(self.at))
+
+    def at_rest(self, value, reply):
+        """What is left at rest of a time that is not finished, in sentences; none if only that was asked."""
+        if value.get("do") != "why" or "rest" in value or reply.get("passed") is not False:
+            return []
+        try:
+            left = self.second.at_rest(value)
+            words = [rest_words(left, self.teller.graph.holds)] if "stop" in left else []
+            return words + self.loop_words(left)
+        except Stopped as fault:
+            return [f"what is left at rest: {fault}"]
+
+    def loop_words(self, left):
+        """Which loop goes round, if a run does not come to rest."""
+        if left.get("stop") != "limit":
+            return []
+        graph = self.teller.graph
+        said = self.second.try_out(lambda ask: finishing.goes_round(ask, graph), *self.second.here())
+        return [said] if said else []
 
     def note_discarded(self, gone, before):
         """Says how many kept steps were discarded, and how they come back."""
@@ -104,8 +128,11 @@ class Debugger:
         second program."""
         if isinstance(value, dict) and second.is_long(value):
             return self.second.ask(value, *self.second.here()), 0
-        is_run = isinstance(value, dict) and value.get("do") == "run"
-        return self.journal.run(value) if is_run else self.journal.ask(value)
+        before, is_run = self.at, isinstance(value, dict) and value.get("do") == "run"
+        reply, gone = self.journal.run(value) if is_run else self.journal.ask(value)
+        if "at" in reply:
+            self.rounds.note(self.session.ask, self.teller.graph, value, reply, before)
+        return reply, gone
 
     def keep_breaks(self, value, reply):
         """Keeps what a reply says of the breakpoints."""

@@ -8,7 +8,7 @@ import json
 import os
 import signal
 
-from rewind_tools import completing, graph_text, opening
+from rewind_tools import completing, finishing, graph_text, opening
 from rewind_tools.debugger import MOST_SHOWN, Debugger
 from rewind_tools.journal import Stopped
 from rewind_tools.ports import operators_of, ports_of
@@ -56,7 +56,7 @@ class Prompt(cmd.Cmd, Debugger):
     def __init__(self, session, name="typed", is_raw=False, is_terminal=False):
         cmd.Cmd.__init__(self)
         Debugger.__init__(self, session, name, is_raw, is_terminal)
-        self.use_rawinput, self.may_replace = is_terminal, None
+        self.use_rawinput, self.may_replace, self.way = is_terminal, None, None
 
     # ---- the line and its answer
 
@@ -197,6 +197,39 @@ class Prompt(cmd.Cmd, Debugger):
             self.session.ask({"do": "unbreak", "id": made["id"]})
             self.teller.breaks.pop(made["id"], None)
 
+    def do_finish(self, rest):
+        """finish [passed P LOCATION TIME]: how a time can finish; alone, execute what was said of that"""
+        if not rest:
+            return self.execute_way()
+        when = line_of(["break", *words_of_line(rest)], said="finish")["when"]
+        if when.keys() != {"passed"}:
+            raise NotTyped("finish takes a time that a processor is to pass, as: finish passed 0 out 0")
+        query, graph = {"do": "why", **when["passed"]}, self.teller.graph
+        now = self.session.ask(query)
+        if now.get("passed") is not False:
+            return self.say("; ".join(self.answer(query, now)))
+        way = self.second.try_out(lambda ask: finishing.way_of(ask, graph, query), *self.second.here())
+        if self.is_raw:
+            return self.say_json(way._asdict())
+        for kind, words in finishing.way_words(way, graph.holds):
+            self.say(words if kind == finishing.SAID else f"  {words}")
+        self.way = (way.lines, self.at, self.journal.changes) if way.last["passed"] else None
+        alone = "'finish' alone executes these steps; " if self.way else ""
+        return self.say(f"{alone}'reach {rest} feed release' looks for the fewest steps")
+
+    def execute_way(self):
+        """Executes the lines that 'finish' has said last, if it was about this position."""
+        lines, *place = self.way or [None, None, None]
+        if place != [self.at, self.journal.changes]:
+            raise NotTyped("no way to finish is known here; 'finish passed 0 out 0' looks for one")
+        self.way = None
+        for it in lines:
+            before = self.at
+            self.ask(it)
+            if self.at == before or self.at < before + it.get("limit", 1):
+                return self.say("the steps after this are left out")
+        return None
+
     def do_breaks(self, rest):
         """breaks: list the breakpoints that are set"""
         for number, words in sorted(self.teller.breaks.items()):
@@ -215,7 +248,8 @@ class Prompt(cmd.Cmd, Debugger):
         """where: the cursor and the kept steps"""
         if self.is_raw:
             return self.say_json({"at": self.at, "kept": self.kept})
-        return self.say(self.journal.with_place(self.at, f"position {self.at} of {self.kept}"))
+        self.say(self.journal.with_place(self.at, f"position {self.at} of {self.kept}"))
+        return self.say(self.rounds.at(self.at)) if self.rounds.at(self.at) else None
 
     def do_graph(self, rest):
         """graph: list the vertices, each with the edges that leave it"""
@@ -275,15 +309,23 @@ class Prompt(cmd.Cmd, Debugger):
     def do_save(self, rest):
         """save FILE: write the script of the kept steps"""
         path = self.file("save", rest)
-        if os.path.isfile(path) and self.may_replace != path:
-            self.may_replace = path
-            raise NotTyped(f"{path} is there already; the same again writes over it")
-        self.may_replace = path
+        if os.path.isfile(path) and not self.may_write_over(path):
+            return
         write_text(path, self.journal.script())
         remove_others(path, self.journal.places())
         self.journal.saved()
         words = " ".join(self.session.words)
         self.say(f"saved; './rewind {words}{' ' * bool(words)}< {path}' executes it again")
+
+    def may_write_over(self, path):
+        """Whether a file that is there may be written over: a person is asked, and otherwise the same line
+        must come twice."""
+        if self.is_terminal:
+            return self.is_yes(f"{path} is there already. Write over it (y/n)? ")
+        if self.may_replace != path:
+            self.may_replace = path
+            raise NotTyped(f"{path} is there already; the same again writes over it")
+        return True
 
     def do_raw(self, rest):
         """raw on|off: print replies as JSON, or in words"""
@@ -306,15 +348,16 @@ class Prompt(cmd.Cmd, Debugger):
     def may_lose(self):
         """Asks whether the steps that no file has may be lost; a second Ctrl-D says yes."""
         self.say(f"{self.journal.unsaved_words()}; 'save FILE' saves them")
+        return self.is_yes("End all the same (y/n)? ", True)
+
+    def is_yes(self, question, at_end=False):
+        """The answer to a question; Ctrl-C says no, and what Ctrl-D says is given."""
         handler = signal.signal(signal.SIGINT, signal.default_int_handler)
         try:
-            return input("End all the same (y/n)? ").strip().lower() in ("y", "yes")
-        except EOFError:
+            return input(question).strip().lower() in ("y", "yes")
+        except (EOFError, KeyboardInterrupt) as key:
             self.say("")
-            return True
-        except KeyboardInterrupt:
-            self.say("")
-            return False
+            return at_end and isinstance(key, EOFError)
         finally:
             signal.signal(signal.SIGINT, handler)
 

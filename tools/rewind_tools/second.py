@@ -3,6 +3,9 @@ and the question ends at once when it is stopped.
 
     second = Second(journal, report)
     second.ask(line, *second.here())    the reply to a line; Stopped, if it was stopped
+    second.at_rest(query)               the reply to a query 'why', at rest
+    second.try_out(work, *second.here())    what `work` returns, which is given how to ask the program, and may
+                                        execute steps from there on: the session's own stay as they are
     second.stop()                       kills the program, from any thread
 
 The program starts with the first question, and is brought to the steps that a question is about: by those
@@ -10,10 +13,11 @@ that it lacks alone. After a stop it begins anew."""
 import bisect
 import threading
 
+from rewind_tools.at_rest import MOST
 from rewind_tools.journal import Stopped, common, replay
 from rewind_tools.session import Ended, Session
 
-# Over how many positions a question may go that does not take long.
+# Over how many positions or steps a question may go that does not take long.
 FEW = 2000
 
 
@@ -22,7 +26,8 @@ def is_long(value):
     if value.get("do") in ("turns", "changes", "search"):
         lo, hi = value.get("lo"), value.get("hi")
         return type(lo) is int and type(hi) is int and hi - lo > FEW
-    return value.get("do") == "reach" or "rest" in value
+    rest = value.get("rest", 0)
+    return value.get("do") == "reach" or type(rest) is int and rest > FEW
 
 
 class Second:
@@ -36,15 +41,33 @@ class Second:
         """The kept steps and the cursor, which stay as they are now."""
         return [*self.journal.entries], self.journal.at
 
+    def at_rest(self, query):
+        """The reply to a query 'why' at rest: that of the session's own program, if few steps are left."""
+        reply = self.journal.session.ask({**query, "rest": FEW})
+        return reply if reply.get("stop") != "limit" else self.ask({**query, "rest": MOST}, *self.here())
+
     def ask(self, value, entries, at):
         """The reply to a line at a position among steps."""
+        return self.with_program(lambda ask: ask(value), entries, at, value.get("hi", 0))
+
+    def try_out(self, work, entries, at):
+        """What some work returns that executes steps from a position on."""
+
+        def from_there(ask):
+            self.entries = [it for it in self.entries if it.end <= at]
+            return work(ask)
+
+        return self.with_program(from_there, entries, at)
+
+    def with_program(self, work, entries, at, hi=0):
+        """What some work returns at a position among steps, with those up to another one kept, too."""
         with self.lock:
             self.is_stopped = not self.journal.may_go_on()
             try:
-                self.bring(entries, max(at, value.get("hi", 0)))
+                self.bring(entries, max(at, hi))
                 self.session.ask({"do": "jump", "to": at})
                 self.report("working")
-                return self.session.ask(value)
+                return work(self.session.ask)
             except Ended as fault:
                 self.close()
                 raise Stopped("cancelled" if self.is_stopped else f"no answer: {fault}") from fault

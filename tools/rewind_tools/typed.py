@@ -188,7 +188,7 @@ def form_of(word):
 
 def usage(word, defaults=()):
     """What stands after a word, as help shows it; what has a default stands in brackets."""
-    if word == "until":
+    if word in ("until", "finish"):
         return SHOWN["when"]
     if word not in FORMS:
         return ""

@@ -153,4 +153,5 @@ class Console(Prompt):
         reply = self.session.ask(question)
         if "error" in reply:
             return reply, [plain(it) for it in self.answer(question, reply)]
-        return reply, [plain(it) for it in why_words(question, reply, self.teller.graph.holds)]
+        words = [*self.at_rest(question, reply), *why_words(question, reply, self.teller.graph.holds)]
+        return reply, [plain(it) for it in words]

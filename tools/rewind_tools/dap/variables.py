@@ -162,7 +162,8 @@ class Variables:
             )
             for it in reply["reasons"]
         ]
-        return [*reasons, Variable("in truth", said[-1].removeprefix("in truth "))]
+        left = [Variable("at rest", said[0])] if not reply["passed"] else []
+        return [*left, *reasons, Variable("in truth", said[-1].removeprefix("in truth "))]
 
 
 def one_each(entries, words):

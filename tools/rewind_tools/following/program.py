@@ -11,6 +11,7 @@ The program takes short names alone: it is given one for each other name of the 
 import json
 import time
 
+from rewind_tools.script import LAST
 from rewind_tools.session import Session, VersionRefused
 from rewind_tools.short_names import Names
 from rewind_tools.telling.faults import faulty
@@ -18,7 +19,7 @@ from rewind_tools.telling.graph_faults import graph_faults
 from rewind_tools.tool import Fault
 
 # The versions in which a run can be followed, the last first.
-VERSIONS = (6, 5)
+VERSIONS = (LAST, 6, 5)
 # How many lines are executed again at once.
 PIECE = 2_000
 # How many seconds pass before it is said how far the lines are; then it is said as long after that again.

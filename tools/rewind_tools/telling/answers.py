@@ -5,7 +5,7 @@ from rewind_tools.telling.commands import at, command_words, condition, counted,
 from rewind_tools.telling.commands import record, some_of, time_in
 from rewind_tools.telling.effects import effect_words
 from rewind_tools.telling.forms import listed
-from rewind_tools.telling.reasons import why_words
+from rewind_tools.telling.reasons import rest_words, why_words
 
 MOST_STEPS = 40
 
@@ -358,17 +358,12 @@ def reached(teller, value, reply):
 
 
 def why(teller, value, reply):
-    """The reasons; at rest also why the run to rest stopped."""
-    words = why_words(value, reply, teller.graph.holds)
+    """The reasons; of 'why' at rest what is left first, which is all if the run comes to rest."""
+    holds = teller.graph.holds
     if "stop" not in reply:
-        return words
-    steps = counted(reply["ran"], "step")
-    stops = {
-        "rest": f"whatever the order of the {steps} that are left, this stays",
-        "stuck": f"after {steps} a limit refuses what is left",
-        "limit": f"after {steps} it is not at rest",
-    }
-    return [stops[reply["stop"]], *words]
+        return why_words(value, reply, holds)
+    first, *others = why_words(value, reply, holds)
+    return [rest_words(reply, holds), *([f"then {first}", *others] if reply["stop"] != "rest" else [])]
 
 
 def turns(teller, value, reply):

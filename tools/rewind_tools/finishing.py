@@ -1,0 +1,252 @@
+"""How a point can still finish, for every tool alike: what somebody outside must do and what the protocol
+then does; the fewest steps; and whether a run goes round a loop.
+
+    way = way_of(ask, graph, query)      a Way for a query 'why'; `ask` asks a copy of the session, which moves
+    way.lines                            the lines that lead to the point's end, none if there is no way
+    way_words(way, holds)                what is left at rest, and each line in words, with its kind
+    fewest(ask, graph, asked)            the fewest steps, or that there are none
+    Rounds()                             what stays said of a run that goes round a loop"""
+import json
+from typing import NamedTuple
+
+from rewind_tools.at_rest import LAST_COUNTER, MOST
+from rewind_tools.script import MOST_LITERALS, STEPS, USERS
+from rewind_tools.telling.commands import FIRM, at, command_words, counted
+from rewind_tools.telling.reasons import rest_words
+
+# How many states are looked at first for the fewest steps, and at most; how many steps before its end show
+# whether a run goes round, and from how many rounds on it does.
+STATES, MOST_STATES = 1000, 1_000_000
+LOOKED_BACK, ROUNDS = 300, 3
+# How many lines a way has at most; with which seeds a run by lot is tried, and how long it is.
+MOST_LINES, SEEDS, LOT = 1000, (1, 2, 3), 2000
+NOT_MOVES = "feeds with values, sends and moves of capabilities are not among the steps that are tried"
+# What each kind of step is.
+KINDS = {
+    "feed": "from outside: the input goes on",
+    "release": "from outside: a capability is given up",
+    "take": "a record is consumed",
+    "notice": "a notification is delivered",
+    "broadcast": "progress is sent",
+    "receive": "progress is received",
+}
+MUST, DOES, SAID = "must", "does", "said"
+
+
+class Way(NamedTuple):
+    """How a point can finish: the reply at rest before all lines, the lines, the reply at rest after them,
+    and if the run there does not come to rest the words for its loop."""
+
+    first: dict
+    lines: list
+    last: dict
+    loop: str
+
+
+def condition(graph, asked):
+    """The condition that a point is finished for a processor; of the question `before`, that all that could
+    result in the point is, which is what a notification waits for: each edge into the vertex, and the
+    earlier times of the vertex itself."""
+    q, place, time = asked["q"], asked["at"], asked["time"]
+    points = [[place, time]]
+    if asked.get("before") and place in graph.vertices:
+        points = [[it["name"], time] for it in graph.edges.values() if it["to"] == place]
+        earlier = [[*time[:i], it - 1, *time[i + 1 :]] for i, it in enumerate(time) if it]
+        points += [[place, it] for it in earlier]
+        if not 1 <= len(points) <= MOST_LITERALS:
+            points = [[place, time]]
+    passed = [{"passed": {"q": q, "at": name, "time": it}} for name, it in points]
+    return passed[0] if len(passed) == 1 else {"all": passed}
+
+
+# ---- a way by what is left at rest
+
+
+def way_of(ask, graph, query):
+    """Runs to rest, ends from outside what is left there, and so on, until the point is finished or nothing
+    can be ended."""
+    first = reply = ask({**query, "rest": MOST})
+    lines = []
+    while reply.get("passed") is False and reply["stop"] == "rest" and len(lines) < MOST_LINES:
+        if not ended(ask, reply, query["time"][0], lines):
+            break
+        reply = ask({**query, "rest": MOST})
+    loop = ""
+    if reply.get("passed") and reply["ran"]:
+        run = {"do": "run", "limit": reply["ran"]}
+        lines.append(run_until(ask, graph, query, run) or run)
+    elif reply.get("stop") == "limit":
+        found = by_lot(ask, graph, query)
+        lines, reply = (lines + [found], {**reply, "passed": True}) if found else (lines, reply)
+        loop = goes_round(ask, graph)
+    return Way(first, lines, reply, loop)
+
+
+def outside(reply, epoch):
+    """The steps that end all that is left at rest, each of somebody outside."""
+    for reason in reply["reasons"]:
+        (vertex, time), on_epoch = reason["point"], "close" if epoch == LAST_COUNTER else {"to": epoch + 1}
+        for it in reason["held"]:
+            if "token" in it:
+                to = "next" if time[0] == epoch != LAST_COUNTER else on_epoch
+                yield {"do": "feed", "p": it["p"], "vertex": vertex, "values": [], "next": to}
+            elif "request" in it:
+                yield {"do": "release", "p": it["p"], "vertex": vertex, "time": time}
+
+
+def ended(ask, reply, epoch, lines):
+    """Adds the steps that end what is left at rest, after the run to rest if one of them needs that; whether
+    all of them are executed."""
+    count, run = len(lines), [{"do": "run", "limit": reply["ran"]}] if reply["ran"] else []
+    for it in outside(reply, epoch):
+        refused = "error" in ask(it)
+        if refused and run and "error" not in ask(run[0]):
+            lines.append(run.pop())
+            refused = "error" in ask(it)
+        if refused:
+            return False
+        lines.append(it)
+    return len(lines) > count
+
+
+def run_until(ask, graph, query, run):
+    """The part of a run that leads to the point's end, as a line; None if it does not lead there."""
+    made = ask({"do": "break", "when": condition(graph, query)})
+    ran = ask(run)
+    ask({"do": "unbreak", "id": made.get("id", 0)})
+    is_there = isinstance(ran.get("stop"), dict) and ask(query).get("passed")
+    return {**run, "limit": ran["ran"]} if is_there else None
+
+
+def by_lot(ask, graph, query):
+    """A run by lot that leads to the point's end, where the run in turn does not come to rest; None if none
+    is found."""
+    here = ask({"do": "run", "limit": 1})["at"] - 1
+    for seed in SEEDS:
+        ask({"do": "jump", "to": here})
+        if found := run_until(ask, graph, query, {"do": "run", "limit": LOT, "seed": seed}):
+            return found
+    return None
+
+
+def must_words(step):
+    """What somebody outside must do; a token may be given up as well."""
+    words = command_words(step)
+    return words if step["do"] == "release" or step["next"] == "close" else f"{words}, or gives up its token"
+
+
+def does_words(line, is_first):
+    lot = f", chosen by the seed {line['seed']}" if "seed" in line else ""
+    return f"the protocol {'' if is_first else 'then '}does {counted(line['limit'], 'step')}{lot}"
+
+
+def way_words(way, holds):
+    """A way in words: pairs of a kind and a sentence."""
+    said = [(SAID, rest_words(way.first, holds))]
+    for number, it in enumerate(way.lines):
+        is_run = it["do"] == "run"
+        said.append((DOES, does_words(it, number == 0)) if is_run else (MUST, f"somebody must: {must_words(it)}"))
+    if not way.last["passed"]:
+        left = [(SAID, rest_words(way.last, holds))] if way.lines else []
+        said += left + [(SAID, "no step that can be offered ends that")]
+    return said + ([(SAID, way.loop)] if way.loop else [])
+
+
+# ---- the fewest steps
+
+
+def fewest(ask, graph, asked):
+    """The fewest steps to the point's end, each in words with what it is and its line; or that there are
+    none. A notification that waits for that end is the last step."""
+    limit = max(1, min(int(asked.get("limit", STATES)), MOST_STATES))
+    line = {"do": "reach", "when": condition(graph, asked), "limit": limit, "with": [*USERS]}
+    reply = ask(line)
+    if "error" in reply:
+        return {"error": f"{reply['error']} ({reply['code']})"}
+    if reply["steps"] is None:
+        return nowhere(reply, limit)
+    steps = reply["steps"] + ([json.loads(asked["then"])] if asked.get("then") else [])
+    shown = [
+        {"kind": it["do"], "words": plain(command_words(it)), "what": KINDS[it["do"]], "line": json.dumps(it)}
+        for it in steps
+    ]
+    return {"steps": shown, "words": f"by {counted(len(shown), 'step')}, and no fewer:"}
+
+
+def plain(text):
+    return text.replace(FIRM, " ")
+
+
+def nowhere(reply, limit):
+    """That no steps were found, and how many states may be looked at next."""
+    states = counted(reply["states"], "state")
+    if reply["whole"]:
+        words = f"by no steps: {states} can be reached, and it is finished in none of them; {NOT_MOVES}"
+        return {"steps": None, "words": words}
+    more = limit * 10 if limit * 10 <= MOST_STATES else None
+    words = f"by no short list of steps: it is finished in none of the first {states} that can be reached"
+    return {"steps": None, "words": f"{words}; {NOT_MOVES}", "more": more}
+
+
+# ---- loops
+
+
+def goes_round(ask, graph):
+    """Runs a copy, and says whether it goes round a loop."""
+    ran = ask({"do": "run", "limit": LOOKED_BACK})
+    return rounds(ask, graph, ran, "in the next") if "ran" in ran else ""
+
+
+def steps_back(reply):
+    """The positions of the last steps of a run."""
+    return range(max(1, reply["at"] - min(reply["ran"], LOOKED_BACK) + 1), reply["at"] + 1)
+
+
+def rounds(ask, graph, reply, when="in the last"):
+    """Of a run that stopped before it came to rest, which loop a record goes round and how the loop's counter
+    grows; an empty text if none grew in its last steps."""
+    return loop_words([ask({"do": "step", "to": it})["step"] for it in steps_back(reply)], graph, when)
+
+
+def loop_words(steps, graph, when="in the last"):
+    """Which loop a record goes round in some steps, if it does."""
+    back = {
+        name: it["to"]
+        for name, it in graph.edges.items()
+        if graph.vertices[it["to"]]["op"] == "feedback"
+    }
+    counters = {}
+    for it in steps:
+        if it["do"] == "take" and it["edge"] in back:
+            *outer, counter = it["time"]
+            counters.setdefault((back[it["edge"]], *outer), set()).add(counter)
+    risen = [(len(it), key) for key, it in counters.items() if len(it) >= ROUNDS]
+    if not risen:
+        return ""
+    vertex, *outer = key = max(risen)[1]
+    least, most = min(counters[key]), max(counters[key]) + 1
+    grew = f"{when} {len(steps)} steps its counter grows from {least} to {most}"
+    return f"a record goes round loop {at(vertex, outer)}: {grew}"
+
+
+class Rounds:
+    """What is said of a run that went round a loop, at each position from its begin on, until other steps are
+    kept there or a run comes to rest."""
+
+    def __init__(self):
+        self.begin, self.words = 0, ""
+
+    def note(self, ask, graph, value, reply, before):
+        """Notes a command that was executed at a position, by its reply."""
+        if value["do"] in (*STEPS, "run") and reply.get("at", before) > before < self.begin:
+            self.words = ""
+        if value["do"] != "run" or "ran" not in reply:
+            return
+        said = rounds(ask, graph, reply) if reply["stop"] in ("limit", "interrupt") else ""
+        if said and not self.words:
+            self.begin = reply["at"] - reply["ran"]
+        if said or reply["ran"] >= LOOKED_BACK or reply["stop"] == "idle":
+            self.words = said
+
+    def at(self, cursor):
+        return self.words if cursor >= self.begin else ""
