@@ -3,7 +3,8 @@ then does; the fewest steps; and whether a run goes round a loop.
 
     way = way_of(ask, graph, query)      a Way for a query 'why'; `ask` asks a copy of the session, which moves
     way.lines                            the lines that lead to the point's end, none if there is no way
-    way_words(way, holds)                what is left at rest, and each line in words, with its kind
+    way.words(holds)                     what is left at rest, each line in words, and what is left after them
+    way_shown(ask, graph, asked)         the same for the page
     fewest(ask, graph, asked)            the fewest steps, or that there are none
     Rounds()                             what stays said of a run that goes round a loop"""
 import json
@@ -30,7 +31,6 @@ KINDS = {
     "broadcast": "progress is sent",
     "receive": "progress is received",
 }
-MUST, DOES, SAID = "must", "does", "said"
 
 
 class Way(NamedTuple):
@@ -41,6 +41,13 @@ class Way(NamedTuple):
     lines: list
     last: dict
     loop: str
+
+    def words(self, holds):
+        """What is left at rest; what each line is; and if they do not lead to the end, what is left then."""
+        lines = [line_words(it, number == 0) for number, it in enumerate(self.lines)]
+        left = [rest_words(self.last, holds)] if self.lines and not self.last["passed"] else []
+        end = [] if self.last["passed"] else ["no step that can be offered ends that"]
+        return rest_words(self.first, holds), lines, [*left, *filter(None, [self.loop]), *end]
 
 
 def condition(graph, asked):
@@ -129,27 +136,38 @@ def by_lot(ask, graph, query):
     return None
 
 
-def must_words(step):
-    """What somebody outside must do; a token may be given up as well."""
-    words = command_words(step)
-    return words if step["do"] == "release" or step["next"] == "close" else f"{words}, or gives up its token"
+def line_words(line, is_first):
+    """A line of a way: what somebody outside must do, or what the protocol does."""
+    if line["do"] == "run":
+        lot = f", chosen by the seed {line['seed']}" if "seed" in line else ""
+        return f"the protocol {'' if is_first else 'then '}does {counted(line['limit'], 'step')}{lot}"
+    if line["do"] in ("take", "notice", "broadcast", "receive"):
+        return f"then {command_words(line)}"
+    closed = ", or gives up its token" if line["do"] == "feed" and line["next"] != "close" else ""
+    return f"somebody must: {command_words(line)}{closed}"
 
 
-def does_words(line, is_first):
-    lot = f", chosen by the seed {line['seed']}" if "seed" in line else ""
-    return f"the protocol {'' if is_first else 'then '}does {counted(line['limit'], 'step')}{lot}"
+def way_shown(ask, graph, asked):
+    """How a point can finish, as the page shows it. A notification that waits for that end is the last
+    step."""
+    keys = ("q", "at", "time", *(["before"] if asked.get("before") else []))
+    query = {"do": "why", **{key: asked[key] for key in keys}}
+    now = ask(query)
+    if "error" in now or now["passed"]:
+        return {"error": error_words(now)} if "error" in now else {"words": "it is finished already", "steps": []}
+    way = way_of(ask, graph, query)
+    then = json.loads(asked["then"]) if asked.get("then") else None
+    if way.last["passed"] and then and "error" not in ask(then):
+        way.lines.append(then)
+    first, lines, notes = way.words(graph.holds)
+    steps = [
+        {"kind": it["do"], "words": plain(words), "line": json.dumps(it)} for it, words in zip(way.lines, lines)
+    ]
+    return {"words": plain(first), "steps": steps, "notes": [*map(plain, notes)], "ends": way.last["passed"]}
 
 
-def way_words(way, holds):
-    """A way in words: pairs of a kind and a sentence."""
-    said = [(SAID, rest_words(way.first, holds))]
-    for number, it in enumerate(way.lines):
-        is_run = it["do"] == "run"
-        said.append((DOES, does_words(it, number == 0)) if is_run else (MUST, f"somebody must: {must_words(it)}"))
-    if not way.last["passed"]:
-        left = [(SAID, rest_words(way.last, holds))] if way.lines else []
-        said += left + [(SAID, "no step that can be offered ends that")]
-    return said + ([(SAID, way.loop)] if way.loop else [])
+def error_words(reply):
+    return f"{reply['error']} ({reply['code']})"
 
 
 # ---- the fewest steps
@@ -162,7 +180,7 @@ def fewest(ask, graph, asked):
     line = {"do": "reach", "when": condition(graph, asked), "limit": limit, "with": [*USERS]}
     reply = ask(line)
     if "error" in reply:
-        return {"error": f"{reply['error']} ({reply['code']})"}
+        return {"error": error_words(reply)}
     if reply["steps"] is None:
         return nowhere(reply, limit)
     steps = reply["steps"] + ([json.loads(asked["then"])] if asked.get("then") else [])
@@ -170,7 +188,8 @@ def fewest(ask, graph, asked):
         {"kind": it["do"], "words": plain(command_words(it)), "what": KINDS[it["do"]], "line": json.dumps(it)}
         for it in steps
     ]
-    return {"steps": shown, "words": f"by {counted(len(shown), 'step')}, and no fewer:"}
+    words = f"by {counted(len(shown), 'step')}, and no fewer:" if shown else "it is finished already"
+    return {"steps": shown, "words": words, "ends": True}
 
 
 def plain(text):

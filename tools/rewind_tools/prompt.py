@@ -211,8 +211,9 @@ class Prompt(cmd.Cmd, Debugger):
         way = self.second.try_out(lambda ask: finishing.way_of(ask, graph, query), *self.second.here())
         if self.is_raw:
             return self.say_json(way._asdict())
-        for kind, words in finishing.way_words(way, graph.holds):
-            self.say(words if kind == finishing.SAID else f"  {words}")
+        first, lines, notes = way.words(graph.holds)
+        for it in [first, *(f"  {it}" for it in lines), *notes]:
+            self.say(it)
         self.way = (way.lines, self.at, self.journal.changes) if way.last["passed"] else None
         alone = "'finish' alone executes these steps; " if self.way else ""
         return self.say(f"{alone}'reach {rest} feed release' looks for the fewest steps")

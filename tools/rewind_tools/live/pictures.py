@@ -13,9 +13,10 @@ from rewind_tools.live.sight import (
     window,
 )
 from rewind_tools.live.turned import Turned
+from rewind_tools.second import FEW
 from rewind_tools.telling.commands import at, command_words, processor_of, time_in
 from rewind_tools.telling.effects import effect_words
-from rewind_tools.telling.reasons import reason_words
+from rewind_tools.telling.reasons import count_words, news_words, rest_words
 
 # How many changes of a step and how many reasons a picture has.
 MOST_CHANGES, MOST_REASONS = 60, 40
@@ -197,12 +198,20 @@ class Pictures:
         q, place, time = asked["q"], asked["at"], asked.get("time")
         arriving = self.session.ask({"do": "frontier", "q": q, "at": place})
         if "error" in arriving:
-            return {"error": f"{arriving['code']} {arriving['error']}"}
+            return {"error": f"{arriving['error']} ({arriving['code']})"}
         if time is None:
             times = [it for it in arriving["times"] if max(it) <= LAST_COUNTER]
             time = times[0] if times else [0] * (self.depths[place] + 1)
         question = {"q": q, "at": place, "time": time, "before": bool(asked.get("before"))}
-        return self.whys([question], [arriving])[0]
+        told = self.whys([question], [arriving])[0]
+        return {**told, "rest": self.rest(question)} if told.get("passed") is False else told
+
+    def rest(self, question):
+        """What is left at rest, if few steps are left."""
+        reply = self.session.ask({"do": "why", **question, "rest": FEW})
+        if reply["stop"] == "limit" and not reply["passed"]:
+            return f'more than {FEW} steps are left: "How can this finish?" goes through them'
+        return plain(rest_words(reply, self.holds))
 
     def whys(self, questions, arriving):
         """The answers why processors do not consider points finished, each with the reasons in words and
@@ -222,7 +231,11 @@ class Pictures:
             "passed": reply["passed"],
             "finished": reply["finished"],
             "reasons": [
-                {"words": plain(reason_words(it, self.holds)), "place": self.order[it["point"][0]]}
+                {
+                    "words": plain(count_words(it, self.holds)),
+                    "news": plain(news_words(it)),
+                    "place": self.order[it["point"][0]],
+                }
                 for it in reply["reasons"][:MOST_REASONS]
             ],
             "more": max(0, len(reply["reasons"]) - MOST_REASONS),

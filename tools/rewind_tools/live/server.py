@@ -11,9 +11,8 @@ import time
 from http.server import BaseHTTPRequestHandler, ThreadingHTTPServer
 from urllib.parse import urlsplit
 
-from rewind_tools import opening
+from rewind_tools import finishing, opening
 from rewind_tools.journal import Journal, Stopped, opened_by
-from rewind_tools.live import finishing
 from rewind_tools.live.pictures import Pictures
 from rewind_tools.live.turned import PIECE
 from rewind_tools.page import FILES, live_page, part
@@ -64,6 +63,7 @@ class Live:
         self.pictures = Pictures(session, self.teller, self.journal.with_place)
         self.second = Second(self.journal, self.show_progress)
         self.revision, self.ended, self.progress = 0, None, ""
+        self.rounds = finishing.Rounds()
         self.is_cancelled = self.is_closing = False
         session.on_end(self.has_ended)
 
@@ -127,8 +127,9 @@ class Live:
         before = self.at, self.kept
         reply, count = self.journal.ask(value)
         reply.update({"ran": reply["ran"] + asked.get("ran", 0)} if "ran" in reply else {})
-        words = self.words(value, reply) + self.round_words(value, reply)
+        words = self.words(value, reply)
         self.note(value, reply)
+        self.rounds.note(self.session.ask, self.teller.graph, value, reply, before[0])
         has_moved = (self.at, self.kept) != before
         if has_moved and value["do"] in (*STEPS, "run"):
             self.pictures.forget_from(before[0])
@@ -145,13 +146,6 @@ class Live:
         else:
             said = self.teller.told(value, reply, None)
         return [it.replace(FIRM, " ") for it in said]
-
-    def round_words(self, value, reply):
-        """What else there is to say of a run that stopped at its limit: that a record goes round."""
-        if value["do"] != "run" or reply.get("stop") != "limit":
-            return []
-        said = finishing.rounds(self.session, self.teller.graph, reply, "seed" in value)
-        return [said] if said else []
 
     def bring_back(self, asked):
         """Executes the run before the last discard again."""
@@ -183,6 +177,7 @@ class Live:
         """The picture at the cursor, with what is in sight of it."""
         picture = self.pictures.of(self.at, self.kept, self.revision, sight)
         picture.update({"dropped": len(self.journal.dropped), "reach": self.reach()})
+        picture["rounds"] = self.rounds.at(self.at).replace(FIRM, " ")
         return {"revision": self.revision, "picture": picture}
 
     def reach(self):
@@ -199,7 +194,7 @@ class Live:
             self.second.stop()
             return {}
         try:
-            if path in ("finish", "turns"):
+            if path in ("finish", "fewest", "turns"):
                 return self.asked_second(path, asked)
             with self.lock:
                 return self.answered(path, asked)
@@ -209,17 +204,21 @@ class Live:
     def asked_second(self, path, asked):
         """The answer to a question that may take long. Others are answered meanwhile."""
         try:
-            return self.turns(asked["when"]) if path == "turns" else self.finish(asked)
+            return self.turns(asked["when"]) if path == "turns" else self.finish(path, asked)
         except Stopped as fault:
             return {"stopped": str(fault)}
         finally:
             self.progress = ""
 
-    def finish(self, asked):
-        """By which steps a point can still finish."""
+    def finish(self, path, asked):
+        """How a point can still finish, or by which fewest steps."""
+        graph = self.teller.graph
         with self.lock:
             here, revision = self.second.here(), self.revision
-        told = finishing.finish(lambda line: self.second.ask(line, *here), self.teller.graph, asked)
+        if path == "fewest":
+            told = finishing.fewest(lambda line: self.second.ask(line, *here), graph, asked)
+        else:
+            told = self.second.try_out(lambda ask: finishing.way_shown(ask, graph, asked), *here)
         return {**told, "revision": revision}
 
     def turns(self, when):

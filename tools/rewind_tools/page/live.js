@@ -318,6 +318,8 @@ function show() {
   by("back").disabled = by("first").disabled = picture.at === 0;
   by("redo").disabled = by("last").disabled = picture.at === picture.kept;
   by("bring-back").hidden = !picture.dropped;
+  by("rounds").hidden = !picture.rounds;
+  by("rounds").textContent = picture.rounds;
   by("slider").max = picture.kept;
   by("slider").value = picture.at;
   Object.assign(document.body.dataset, { position: picture.at, kept: picture.kept, revision });

@@ -139,13 +139,21 @@ function showWhy() {
   const { at } = question(), point = `${at} ${timeText(told.time)}`;
   const there = chosen.before ? `all that is strictly before ${point}` : point;
   const list = made("ul");
-  list.append(...told.reasons.map((it) => made("li", it.words)));
+  list.append(...told.reasons.map(reasonRow));
   if (told.more) list.append(made("li", `and ${told.more} more`, "none"));
   if (!told.passed) list.append(made("li", `in truth ${there} is ${told.finished ? "" : "not "}finished`, "none"));
   const verdict = `processor ${chosen.q} ${told.passed ? "knows" : "does not know"} that ${there} is finished${told.passed ? "" : ":"}`;
   const arrive = told.times ? `can still arrive at ${at}, as far as processor ${chosen.q} knows: ${told.times} and later` : `processor ${chosen.q} knows that nothing can arrive at ${at} any more`;
   const finish = source.isLive ? source.finishPart(told) : [];
-  return redrawn(by("why"), made("p", verdict), list, made("p", arrive, "none"), ...finish);
+  const rest = told.rest ? [made("p", told.rest, "rest")] : [];
+  return redrawn(by("why"), ...rest, ...finish, made("p", verdict, rest.length ? "none" : ""), list, made("p", arrive, "none"));
+}
+
+// A reason, with the news under way, which goes with the next steps.
+function reasonRow(it) {
+  const row = made("li", it.words);
+  if (it.news) row.append(made("span", `; ${it.news}`, "none"));
+  return row;
 }
 
 // ---- the table, the processors, the breakpoints
