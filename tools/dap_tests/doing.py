@@ -57,6 +57,7 @@ class Seen(testing.Case):
         (found,) = client.opened(waiting)
         got = {it["name"]: it["value"] for it in client.opened(found["variablesReference"])}
         self.same("why", got, {
+            "at rest": "no step is left, and this stays: the token of processor 1 at words (0)",
             "words (0)": "it still counts 1; held there: the token of processor 1",
             "in truth": "all that is strictly before total (0) is not finished",
         })  # fmt: skip
@@ -160,14 +161,33 @@ class Typed(testing.Case):
         """Over a location it answers why, at the chosen thread, at the earliest time that can arrive."""
         client = self.client
         body = client.body("evaluate", expression="out", context="hover", frameId=2)
+        first, second = body["result"].splitlines()[:2]
+        self.same("at rest", first, "it finishes, by any order: 12 steps are left")
         said = "processor 1 does not know that out (0) is finished: it still counts 1 at words (0)"
-        self.holds("out", body["result"].startswith(said), body)
-        self.same("opened", client.opened(body["variablesReference"])[0]["name"], "words (0)")
+        self.holds("out", second.startswith(said), body)
+        opened = [it["name"] for it in client.opened(body["variablesReference"])]
+        self.same("opened", opened[:2], ["at rest", "words (0)"])
         self.same("no location", client.answer("processor", "hover"), "processor is no location")
         self.same("a watch", client.answer("where", "watch"), "position 13 of 25")
         for text in ("back", "next", "feed 0 words 1 next", '{"do":"back"}', "load x", "save x", "undrop"):
             self.holds(text, client.answer(text, "watch").startswith("only a question"))
         self.same("not moved", client.at(), 13)
+
+    def test_finish(self):
+        """What somebody must do so that a time finishes; the same word alone does it, when asked twice if that
+        discards steps."""
+        client = self.client
+        client.typed("jump 11")
+        said = client.answer("finish passed 0 out 0").splitlines()
+        self.same("how", said[:3], [
+            "no step is left, and this stays: the token of processor 1 at words (0)",
+            "  somebody must: processor 1 feeds nothing into words and goes on to the next epoch, or gives up"
+            " its token",
+            "  the protocol then does 13 steps",
+        ])  # fmt: skip
+        self.holds("it discards", client.answer("finish").startswith("this discards 14 kept steps"))
+        self.holds("done", "then stopped: that is the limit" in client.answer("finish"))
+        self.same("there", client.answer("passed 0 out 0"), "yes")
 
     def test_nothing_can_arrive(self):
         client = self.client
@@ -452,7 +472,8 @@ class Pages(testing.Case):
             answers = [client.answer(it.strip()) for it in lines if it.strip()]
         wanted = "step 15: processor 0 runs the notification of total (0)"
         self.holds("delivered", len(answers) == 4 and wanted in answers[-1], answers)
-        self.holds("the reason", "it still counts 1; held there: the token of processor 1" in page)
+        said = "at rest: no step is left, and this stays: the token of processor 1 at words (0)"
+        self.holds("the reason", said in page)
 
     def test_keys(self):
         """The page names the keys of dap-rewind.el."""

@@ -36,6 +36,7 @@ Unsent
 On its way
 Waiting
     runs the notification of total (0): {NOT_YET}
+      at rest: no step is left, and this stays: the token of processor 1 at words (0)
       words (0): it still counts 1; held there: the token of processor 1
       in truth: all that is strictly before total (0) is not finished
 stops where: processor 0 has passed out (0)
@@ -51,10 +52,12 @@ Unsent
 On its way
 Waiting
 stuck-program.rewind line 25
+it finishes, by any order: 1 step is left
 processor 0 does not know that out (0) is finished: it still counts 1 at total (0); nothing is held\
  there; not heard: an update of -1 by processor 1, first in its queue
 in truth out (0) is finished: no processor has anything at or before it
 cancelled
+it finishes, by any order: 1 step is left
 processor 0 does not know that total (0) is finished: it still counts 1 at total (0); nothing is held\
  there; not heard: an update of -1 by processor 1, first in its queue
 in truth total (0) is finished: no processor has anything at or before it

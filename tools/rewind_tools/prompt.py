@@ -223,10 +223,10 @@ class Prompt(cmd.Cmd, Debugger):
         lines, *place = self.way or [None, None, None]
         if place != [self.at, self.journal.changes]:
             raise NotTyped("no way to finish is known here; 'finish passed 0 out 0' looks for one")
-        self.way = None
         for it in lines:
             before = self.at
             self.ask(it)
+            self.way = None
             if self.at == before or self.at < before + it.get("limit", 1):
                 return self.say("the steps after this are left out")
         return None
@@ -310,8 +310,9 @@ class Prompt(cmd.Cmd, Debugger):
     def do_save(self, rest):
         """save FILE: write the script of the kept steps"""
         path = self.file("save", rest)
-        if os.path.isfile(path) and not self.may_write_over(path):
+        if os.path.isfile(path) and self.may_replace != path and not self.may_write_over(path):
             return
+        self.may_replace = path
         write_text(path, self.journal.script())
         remove_others(path, self.journal.places())
         self.journal.saved()
@@ -319,14 +320,12 @@ class Prompt(cmd.Cmd, Debugger):
         self.say(f"saved; './rewind {words}{' ' * bool(words)}< {path}' executes it again")
 
     def may_write_over(self, path):
-        """Whether a file that is there may be written over: a person is asked, and otherwise the same line
-        must come twice."""
+        """Asks whether a file that is there may be written over; with nobody to ask, the same line must come
+        twice."""
         if self.is_terminal:
             return self.is_yes(f"{path} is there already. Write over it (y/n)? ")
-        if self.may_replace != path:
-            self.may_replace = path
-            raise NotTyped(f"{path} is there already; the same again writes over it")
-        return True
+        self.may_replace = path
+        raise NotTyped(f"{path} is there already; the same again writes over it")
 
     def do_raw(self, rest):
         """raw on|off: print replies as JSON, or in words"""

@@ -1,9 +1,11 @@
 """The names and times of a line, against the graph: which of them is not there, and which has a wrong
 depth."""
+import functools
 import json
 
 from rewind_tools.runs import answers_after
 from rewind_tools.script import HOLDING, literals_in
+from rewind_tools.showing.loops import loops_of
 from rewind_tools.telling import forms
 from rewind_tools.telling.commands import vertex_words
 from rewind_tools.telling.graph_faults import deepest
@@ -34,6 +36,16 @@ class Graph:
         self.holds, self.distincts = holds_of(value), named_of(value, "distinct")
         self.opaques = named_of(value, "opaque")
         self.order = {name: at for at, name in enumerate([*self.vertices, *self.edges])}
+
+    @functools.cached_property
+    def loops(self):
+        """The name of the innermost loop of each place that is in one: that of its feedback."""
+        found = {}
+        for depth, inside in loops_of(self.value):
+            own = [it for it in inside if self.vertices[it]["op"] == "feedback"]
+            names = [it for it in own if self.vertices[it]["depth"] == depth]
+            found.update(dict.fromkeys(inside, "/".join(names)))
+        return {**found, **{it: found[edge["to"]] for it, edge in self.edges.items() if edge["to"] in found}}
 
     def named(self, wanted):
         """The names of a kind of thing."""

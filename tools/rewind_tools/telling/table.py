@@ -4,6 +4,8 @@ from rewind_tools.telling.commands import time_in
 
 WIDTH = 100
 LONG = 12
+# How many rows of a loop's rounds are shown before the others are only counted.
+ROUNDS = 3
 NOTHING = "."
 
 
@@ -68,19 +70,40 @@ def rows_of(now, before):
     return rows
 
 
-def table(state, before, order, is_whole=False):
+def folded(rows, loops):
+    """The rows, each with the line after it: how many more rounds of a loop have the same numbers at the same
+    place. 'loops' has the name of the loop of each place that is in one."""
+    kept, at = [], 0
+    while at < len(rows):
+        (place, time), *cells = rows[at]
+        same = 1
+        while at + same < len(rows) and rows[at + same] == ((place, (*time[:-1], time[-1] + same)), *cells):
+            same += 1
+        same = same if place in loops else 1
+        shown = same if same <= ROUNDS + 1 else ROUNDS
+        kept += [(it, None) for it in rows[at : at + shown]]
+        if shown < same:
+            more = f"and {same - shown} more rounds of loop {loops[place]}, to {place} {time_in(rows[at + same - 1][0][1])}"
+            kept[-1] = kept[-1][0], more
+        at += same
+    return kept
+
+
+def table(state, before, order, is_whole=False, loops=()):
     """The lines of a state's table: what differs from the state before has a '*', and a long table is cut to
     such rows. 'order' has a number for each place, 'before' is None at the start, and 'is_whole' keeps all
-    rows."""
+    rows. Many rounds of a loop are folded, if 'loops' has the name of the loop of each place."""
     rows = rows_of(Points(state, order), Points(before, order) if before else None)
     changed = [row for row in rows if row[2]]
     is_cut = before is not None and len(rows) > LONG and not is_whole
     shown = changed if is_cut else rows
     if not shown:
         return ["nothing is anywhere" if not rows else f"all {len(rows)} points as before"]
-    lines = []
+    lines, kept_rows = [], folded(shown, loops)
+    shown = [it for it, _ in kept_rows]
     for processors in blocks(shown, len(state["processors"])):
-        lines += block(shown, processors)
+        head, *others = block(shown, processors)
+        lines += [head, *(it for line, (_, more) in zip(others, kept_rows) for it in (line, more) if it)]
     kept = len(rows) - len(changed)
     return lines + ([f"and {kept} points as before"] if is_cut and kept else [])
 
