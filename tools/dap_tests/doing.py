@@ -147,7 +147,7 @@ class Typed(testing.Case):
     def test_answers(self):
         client = self.client
         why = client.answer("why 0 total 0 before")
-        self.holds("why", why.startswith("processor 0 does not know that all that is strictly before"), why)
+        self.holds("at rest", why.startswith("it finishes, by any order: 12 steps are left\nprocessor 0 does"), why)
         self.same("where", client.answer("where"), "position 13 of 25")
         self.same("no command", client.answer("fly"), "fly is no command; 'help' lists them")
         self.holds("a line", '"fly" is no command' in client.answer('{"do":"fly"}'))

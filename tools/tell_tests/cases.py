@@ -414,8 +414,9 @@ TOLD = {
         do("step", to=4), do("step", to=0), do("step", to=6), do("why", q=1, at="y", time=[0]),
         do("why", q=1, at="z"),
     ], 0, [
-        (4, "why does processor 1 not consider z (0) finished? processor 1 does not know that z (0) is "
-            "finished: it still counts 3 at"),
+        (4, "why does processor 1 not consider z (0) finished? whatever the order of the"),
+        (4, "this stays: the tokens of processors 1 and 2 at a (0)"),
+        (4, "processor 1 does not know that z (0) is finished: it still counts 3 at"),
         (4, "held there: the tokens of processors 1 and 2; not heard: an update of -1 by processor 0, "
             "not yet broadcast in truth z (0) is not finished"),
         (9, "it still counts 3 at a (0); held there: the tokens of processors 1 and 2; not heard: an update "
@@ -504,8 +505,9 @@ TOLD = {
         (8, "no step leads to position 0"),
         (9, "processor 0 gives up its token of a, which was at epoch 0"),
         (10, "which times can still arrive at z, as far as processor 0 knows? (0), and all that are later"),
-        (11, "why does processor 0 not consider all that is strictly before s (0) finished? processor 0 "
-            "does not know that all that is"),
+        (11, "why does processor 0 not consider all that is strictly before s (0) finished? it finishes, by any "
+            "order"),
+        (11, "processor 0 does not know that all that is"),
         (11, "it still counts 1 at a (0); nothing is held there; not heard: an update of -1 by processor "
             "0, not yet broadcast"),
         (12, '"y" is no name of the graph'), (13, "there is no processor 1"),

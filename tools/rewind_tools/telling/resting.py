@@ -15,8 +15,8 @@ from rewind_tools.script import COMMANDS, LAST
 from rewind_tools.session import Ended, Session
 from rewind_tools.telling.reasons import rest_words
 
-# Of how many questions it is said how they can finish.
-MOST_WAYS = 5
+# Of how many questions it is said how they can finish, and how many lines of that are shown.
+MOST_WAYS, MOST_LINES = 5, 8
 
 
 def question_of(entry, holds):
@@ -38,7 +38,7 @@ def questions_of(entry, holds):
     question = question_of(entry, holds)
     if question:
         return [{**question, "rest": MOST}]
-    if entry.reply.get("stop") == "limit" and "ran" in entry.reply:
+    if entry.reply.get("stop") == "limit" and entry.line.value["do"] == "run":
         return [{"do": "step", "to": it} for it in finishing.steps_back(entry.reply)]
     return []
 
@@ -125,4 +125,5 @@ class Resting:
         finally:
             session.close()
         _, lines, notes = way.words(self.graph.holds)
-        return ["; ".join(lines)] * bool(lines) + notes
+        more = [f"... ({len(lines)} in all)"] if len(lines) > MOST_LINES else []
+        return lines[:MOST_LINES] + more + notes

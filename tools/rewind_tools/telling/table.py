@@ -1,6 +1,6 @@
 """A state as a table of points by processors: the true count, and each processor's view and unsent
 change."""
-from rewind_tools.telling.commands import time_in
+from rewind_tools.telling.commands import counted, time_in
 
 WIDTH = 100
 LONG = 12
@@ -105,7 +105,7 @@ def table(state, before, order, is_whole=False, loops=()):
         head, *others = block(shown, processors)
         lines += [head, *(it for line, (_, more) in zip(others, kept_rows) for it in (line, more) if it)]
     kept = len(rows) - len(changed)
-    return lines + ([f"and {kept} points as before"] if is_cut and kept else [])
+    return lines + ([f"and {counted(kept, 'point')} as before"] if is_cut and kept else [])
 
 
 def cell(number, is_changed):
