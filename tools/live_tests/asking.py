@@ -1,5 +1,6 @@
 """From the stuck program to the reason and on, by the questions that the page asks."""
 import json
+import time
 import unittest
 
 from live_tests.served import Served, around, chain, feed, lines_for, of_class, opening_of, stuck
@@ -71,14 +72,37 @@ class Stuck(unittest.TestCase):
 
 
 class Finishing(unittest.TestCase):
-    """By which steps a point can still finish."""
+    """How a point can still finish."""
+
+    def waiting(self, live):
+        """The question of a notification that waits, with the notification."""
+        shown = live.asked("picture", {})["picture"]["candidates"]["items"]
+        waiting = next(it for it in shown if it["kind"] == "notice" and it["p"] == 0)
+        return {**waiting["ask"], "then": waiting["line"]}
+
+    def execute(self, live, told):
+        for it in told["steps"]:
+            done = live.command(json.loads(it["line"]))
+            self.assertFalse(done["refused"], done["words"])
 
     def test_of_a_notification(self):
-        """What a notification waits for, with the notification as the last step."""
+        """What somebody must do, what the protocol then does, and the notification as the last step."""
         with stuck() as live:
-            shown = live.asked("picture", {})["picture"]["candidates"]["items"]
-            waiting = next(it for it in shown if it["kind"] == "notice" and it["p"] == 0)
-            told = live.asked("finish", {**waiting["ask"], "then": waiting["line"]})
+            told = live.asked("finish", self.waiting(live))
+            left = "no step is left, and this stays: the token of processor 1 at words (0)"
+            self.assertEqual((told["words"], told["notes"], told["ends"]), (left, [], True))
+            self.assertEqual([it["words"] for it in told["steps"]], [
+                "somebody must: processor 1 feeds nothing into words and goes on to the next epoch, or gives up"
+                " its token",
+                "the protocol then does 3 steps",
+                "then processor 0 runs the notification of total (0)",
+            ])  # fmt: skip
+            self.execute(live, told)
+
+    def test_fewest_of_a_notification(self):
+        """The fewest steps, of which the notification is the last."""
+        with stuck() as live:
+            told = live.asked("fewest", self.waiting(live))
             self.assertEqual([it["words"] for it in told["steps"]], [
                 "processor 1 feeds nothing into words and goes on to the next epoch",
                 "processor 1 broadcasts all that is unsent",
@@ -87,34 +111,77 @@ class Finishing(unittest.TestCase):
             ])  # fmt: skip
             self.assertTrue(told["words"].startswith("by 4 steps"), told["words"])
             self.assertEqual(told["steps"][0]["what"], "from outside: the input goes on")
-            for it in told["steps"]:
-                done = live.command(json.loads(it["line"]))
-                self.assertFalse(done["refused"], done["words"])
+            self.execute(live, told)
 
     def test_of_a_point(self):
-        """None among few states, with how many to look at next; and no fault for a point that is none."""
+        """A way at once where few states show none; and no fault for a point that is none."""
         with stuck() as live:
             ask = {"q": 0, "at": "out", "time": [0]}
-            told = live.asked("finish", {**ask, "limit": 20})
+            told = live.asked("fewest", {**ask, "limit": 20})
             self.assertEqual((told["steps"], told["more"]), (None, 200))
             self.assertIn("the first 20 states", told["words"])
-            self.assertIn("error", live.asked("finish", {**ask, "time": [0, 0]}))
+            for path in ("finish", "fewest"):
+                self.assertEqual(live.asked(path, {**ask, "time": [0, 0]})["error"], "BadTime (34)")
+            begun = time.monotonic()
+            told = live.asked("finish", ask)
+            self.assertLess(time.monotonic() - begun, 5)
+            self.assertEqual([json.loads(it["line"])["do"] for it in told["steps"]], ["feed", "run"])
+            self.execute(live, told)
+            self.assertTrue(live.asked("why", ask)["passed"])
+
+    def test_large(self):
+        """With 16 processors and 57 locations a way comes within seconds."""
+        graph, _ = chain(28, 0, 0)
+        lines = [json.dumps(it) for it in (graph, *(feed([p, p + 100], p=p, next="stay") for p in range(16)))]
+        with Served(lines, ["--processors", "16"]) as live:
+            begun = time.monotonic()
+            told = live.asked("finish", {"q": 3, "at": "v27", "time": [0]})
+            self.assertLess(time.monotonic() - begun, 15)
+            self.assertEqual([json.loads(it["line"])["do"] for it in told["steps"]], ["feed"] * 16 + ["run"])
+            self.execute(live, told)
+            self.assertTrue(live.asked("why", {"q": 3, "at": "v27", "time": [0]})["passed"])
+
+    def test_a_capability(self):
+        """One that is held only later: the protocol does its part first, then somebody releases it."""
+        with Served(opening_of("left-at-rest", 4), ["--processors", "2"]) as live:
+            told = live.asked("finish", {"q": 0, "at": "out", "time": [0]})
+            self.assertEqual([it["words"] for it in told["steps"]], [
+                "the protocol does 10 steps",
+                "somebody must: processor 1 releases the capability that it holds at batch (0)",
+                "the protocol then does 8 steps",
+            ])  # fmt: skip
+            self.execute(live, told)
+            self.assertTrue(live.asked("why", {"q": 0, "at": "out", "time": [0]})["passed"])
 
     def test_by_no_steps(self):
         """No record comes from a closed input, so a sink's time that is finished needs no step."""
         graph, _ = chain(1, 0, 0)
         with Served([json.dumps(graph)]) as live:
-            told = live.asked("finish", {"q": 0, "at": "v0", "time": [0]})
+            told = live.asked("fewest", {"q": 0, "at": "v0", "time": [0]})
             self.assertEqual([it["kind"] for it in told["steps"]], ["feed", "broadcast", "receive"])
+            self.execute(live, told)
+            for path in ("finish", "fewest"):
+                told = live.asked(path, {"q": 0, "at": "v0", "time": [0]})
+                self.assertEqual((told["words"], told["steps"]), ("it is finished already", []))
 
     def test_in_a_loop(self):
-        """A run that stops while a record goes round says so, in turn alone."""
+        """A run that goes round a loop says so, at each position of it, until another run comes to rest."""
+        said = "a record goes round loop f (0): in the last 200 steps its counter grows from 0 to 99"
         with Served(around()) as live:
-            ran = live.command({"do": "run", "limit": 200})
-            self.assertIn("a record goes round: f (0,99)", ran["words"][-1].replace("\u00a0", " "))
-            live.command({"do": "jump", "to": 1})
             few = live.command({"do": "run", "limit": 3})
-            self.assertNotIn("goes round", " ".join(few["words"]))
+            self.assertEqual(few["picture"]["rounds"], "")
+            live.command({"do": "jump", "to": 1})
+            ran = live.command({"do": "run", "limit": 200})
+            self.assertEqual(ran["picture"]["rounds"], said)
+            back = live.command({"do": "jump", "to": 100})
+            self.assertEqual(back["picture"]["rounds"], said)
+            told = live.asked("finish", {"q": 0, "at": "z", "time": [0]})
+            limit = "this does not come to rest within 100000 steps"
+            self.assertEqual((told["ends"], told["words"]), (False, limit))
+            self.assertIn("a record goes round loop f (0): in the next 300 steps its counter", told["notes"][0])
+            self.assertEqual(live.command({"do": "jump", "to": 0})["picture"]["rounds"], "")
+            live.command(feed([], next="next"))
+            self.assertEqual(live.command({"do": "run", "limit": 9})["picture"]["rounds"], "")
 
 
 class Discarded(unittest.TestCase):

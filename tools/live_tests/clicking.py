@@ -471,7 +471,7 @@ class Finishing(unittest.TestCase):
     """How a point can still finish, and runs by lot."""
 
     def test_steps_of_a_notification(self):
-        """Click the button of a notification that waits, read the steps, and execute them all."""
+        """Click the button of a notification that waits, read what somebody must do, and execute it all."""
         with stuck() as live, Page(live) as page:
             page.at(11, "the page")
             page.press("left")
@@ -479,13 +479,25 @@ class Finishing(unittest.TestCase):
             page.press("right")
             page.at(11, "the end")
             page.click_text("#candidates button", "How can this finish?")
-            page.says("why", "by 4 steps, and no fewer")
-            page.says("why", "processor 1 feeds nothing into words")
+            page.says("why", "no step is left, and this stays: the token of processor 1 at words (0)")
+            page.says("why", "somebody must: processor 1 feeds nothing into words")
+            page.says("why", "the protocol then does 3 steps")
             picture(page, "finish")
+            page.click_text("#why button", "execute these 5 steps")
+            page.at(16, "the steps")
+            page.says("said", "executed 5 steps")
+            page.says("effect", "runs the notification of total")
+
+    def test_fewest_steps(self):
+        """On request the fewest steps, which are executed, too."""
+        with stuck() as live, Page(live) as page:
+            page.at(11, "the page")
+            page.click_text("#candidates button", "How can this finish?")
+            page.click_text("#why button", "look for the fewest steps")
+            page.says("why", "by 4 steps, and no fewer")
             page.click_text("#why button", "execute these 4 steps")
             page.at(15, "the steps")
             page.says("said", "executed 4 steps")
-            page.says("effect", "runs the notification of total")
 
     def test_steps_that_discard(self):
         """The page asks before the steps discard others."""
@@ -494,13 +506,33 @@ class Finishing(unittest.TestCase):
             page.press("home")
             page.at(0, "the start")
             page.click(page.find(".graph .vertex[data-place='0']"))
+            page.says("why", "this stays: the tokens of processors 0 and 1 at words (0)")
             page.says("why", "does not know that words (0) is finished")
             page.click_text("#why button", "How can this finish?")
-            page.says("why", "no fewer")
+            page.says("why", "somebody must")
             page.click_text("#why button", "execute these")
             page.wait(lambda: page.run(WARNS), "the warning")
             page.click(page.find("#go-on"))
             page.says("said", "11 kept steps discarded")
+
+    def test_news_in_grey(self):
+        """What is left at rest stands first; the news under way, which goes with the next steps, in grey."""
+        with stuck() as live, Page(live) as page:
+            page.at(11, "the page")
+            page.press("home")
+            page.at(0, "the start")
+            page.press("right", "right")
+            page.at(2, "two feeds")
+            page.click(page.find(".graph .vertex[data-place='0']"))
+            page.says("why", "not heard: an update of -1 by processor 0, not yet broadcast")
+            first = page.run("return document.querySelector('#why p').textContent")
+            self.assertEqual(
+                first,
+                "whatever the order of the 9 steps that are left, this stays: the token of processor 1 at words (0)",
+            )
+            colour = "return getComputedStyle(document.querySelector(arguments[0])).color"
+            self.assertNotEqual(page.run(colour, "#why li"), page.run(colour, "#why li .none"))
+            picture(page, "at-rest")
 
     def test_by_lot(self):
         """A run in turn goes round in a loop and says so; one by lot takes the seed that is typed."""
@@ -509,7 +541,7 @@ class Finishing(unittest.TestCase):
             self.assertTrue(page.run("return by('seed').parentElement.hidden"))
             page.fill("#limit", "200")
             page.click(page.find("#run"))
-            page.says("said", "a record goes round: f (0,99)")
+            page.says("rounds", "a record goes round loop f (0): in the last 200 steps its counter grows from 0 to 99")
             page.press("home")
             page.at(0, "the start")
             page.press("right")
@@ -521,7 +553,7 @@ class Finishing(unittest.TestCase):
             page.click(page.find("#go-on"))
             page.at(201, "the run by lot")
             page.says("points", "mf\u00a0(0,25)")
-            page.says("said", 'ask next "How can this finish?" of a point past the loop')
+            page.says("rounds", "a record goes round loop f (0)")
             picture(page, "by-lot")
             page.fill("#seed", "18446744073709551616")
             page.click(page.find("#run"))

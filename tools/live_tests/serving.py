@@ -269,7 +269,7 @@ class Killed(unittest.TestCase):
             said = live.process.stdout.readline()
             self.assertIn("live: the program ended by signal 9; ", said)
             self.assertEqual(self.kept_in(said, "the kept steps are saved"), 6)
-            for name in ("picture", "save", "finish"):
+            for name in ("picture", "save", "finish", "fewest"):
                 status, _, answer = live.post(name, ASK)
                 self.assertEqual((status, json.loads(answer)["error"]), (503, said.strip()[len("live: ") :]))
 
@@ -297,13 +297,13 @@ class Killed(unittest.TestCase):
 
     def ask(self, live):
         with contextlib.suppress(OSError, ValueError, http.client.HTTPException):
-            live.asked("finish", {**ASK, **LONG})
+            live.asked("fewest", {**ASK, **LONG})
 
     def test_cancelled(self):
         """A long question is cancelled at once, and others are answered meanwhile."""
         with Served(around()) as live:
             told = []
-            asking = threading.Thread(target=lambda: told.append(live.asked("finish", {**ASK, **LONG})))
+            asking = threading.Thread(target=lambda: told.append(live.asked("fewest", {**ASK, **LONG})))
             asking.start()
             time.sleep(1)
             begun = time.monotonic()
@@ -312,7 +312,7 @@ class Killed(unittest.TestCase):
             asking.join(20)
             self.assertLess(time.monotonic() - begun, 3)
             self.assertEqual(told, [{"stopped": "cancelled"}])
-            self.assertIn("words", live.asked("finish", {**ASK, "limit": 5}))
+            self.assertIn("words", live.asked("fewest", {**ASK, "limit": 5}))
 
 
 class Starting(unittest.TestCase):
