@@ -147,7 +147,9 @@ class Typed(testing.Case):
     def test_answers(self):
         client = self.client
         why = client.answer("why 0 total 0 before")
-        self.holds("at rest", why.startswith("it finishes, by any order: 12 steps are left\nprocessor 0 does"), why)
+        first, second = why.splitlines()[:2]
+        self.same("at rest", first, "it finishes, by any order: 12 steps are left")
+        self.holds("now", second.startswith("processor 0 does not know that all that is strictly"), why)
         self.same("where", client.answer("where"), "position 13 of 25")
         self.same("no command", client.answer("fly"), "fly is no command; 'help' lists them")
         self.holds("a line", '"fly" is no command' in client.answer('{"do":"fly"}'))
@@ -174,15 +176,15 @@ class Typed(testing.Case):
         self.same("not moved", client.at(), 13)
 
     def test_finish(self):
-        """What somebody must do so that a time finishes; the same word alone does it, when asked twice if that
-        discards steps."""
+        """What somebody must do so that a time finishes; the same word alone does it, when asked twice if
+        that discards steps."""
         client = self.client
         client.typed("jump 11")
         said = client.answer("finish passed 0 out 0").splitlines()
         self.same("how", said[:3], [
             "no step is left, and this stays: the token of processor 1 at words (0)",
-            "  somebody must: processor 1 feeds nothing into words and goes on to the next epoch, or gives up"
-            " its token",
+            "  somebody must: processor 1 feeds nothing into words and goes on to the next epoch, or gives"
+            " up its token",
             "  the protocol then does 13 steps",
         ])  # fmt: skip
         self.holds("it discards", client.answer("finish").startswith("this discards 14 kept steps"))

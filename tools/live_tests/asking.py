@@ -92,8 +92,8 @@ class Finishing(unittest.TestCase):
             left = "no step is left, and this stays: the token of processor 1 at words (0)"
             self.assertEqual((told["words"], told["notes"], told["ends"]), (left, [], True))
             self.assertEqual([it["words"] for it in told["steps"]], [
-                "somebody must: processor 1 feeds nothing into words and goes on to the next epoch, or gives up"
-                " its token",
+                "somebody must: processor 1 feeds nothing into words and goes on to the next epoch, or gives"
+                " up its token",
                 "the protocol then does 3 steps",
                 "then processor 0 runs the notification of total (0)",
             ])  # fmt: skip
@@ -132,12 +132,13 @@ class Finishing(unittest.TestCase):
     def test_large(self):
         """With 16 processors and 57 locations a way comes within seconds."""
         graph, _ = chain(28, 0, 0)
-        lines = [json.dumps(it) for it in (graph, *(feed([p, p + 100], p=p, next="stay") for p in range(16)))]
-        with Served(lines, ["--processors", "16"]) as live:
+        feeds = [feed([p, p + 100], p=p, next="stay") for p in range(16)]
+        with Served([json.dumps(it) for it in (graph, *feeds)], ["--processors", "16"]) as live:
             begun = time.monotonic()
             told = live.asked("finish", {"q": 3, "at": "v27", "time": [0]})
             self.assertLess(time.monotonic() - begun, 15)
-            self.assertEqual([json.loads(it["line"])["do"] for it in told["steps"]], ["feed"] * 16 + ["run"])
+            kinds = [json.loads(it["line"])["do"] for it in told["steps"]]
+            self.assertEqual(kinds, ["feed"] * 16 + ["run"])
             self.execute(live, told)
             self.assertTrue(live.asked("why", {"q": 3, "at": "v27", "time": [0]})["passed"])
 
@@ -178,7 +179,7 @@ class Finishing(unittest.TestCase):
             told = live.asked("finish", {"q": 0, "at": "z", "time": [0]})
             limit = "this does not come to rest within 100000 steps"
             self.assertEqual((told["ends"], told["words"]), (False, limit))
-            self.assertIn("a record goes round loop f (0): in the next 300 steps its counter", told["notes"][0])
+            self.assertIn("a record goes round loop f (0): in the next 300 steps its", told["notes"][0])
             self.assertEqual(live.command({"do": "jump", "to": 0})["picture"]["rounds"], "")
             live.command(feed([], next="next"))
             self.assertEqual(live.command({"do": "run", "limit": 9})["picture"]["rounds"], "")

@@ -526,10 +526,8 @@ class Finishing(unittest.TestCase):
             page.click(page.find(".graph .vertex[data-place='0']"))
             page.says("why", "not heard: an update of -1 by processor 0, not yet broadcast")
             first = page.run("return document.querySelector('#why p').textContent")
-            self.assertEqual(
-                first,
-                "whatever the order of the 9 steps that are left, this stays: the token of processor 1 at words (0)",
-            )
+            left = "this stays: the token of processor 1 at words (0)"
+            self.assertEqual(first, f"whatever the order of the 9 steps that are left, {left}")
             colour = "return getComputedStyle(document.querySelector(arguments[0])).color"
             self.assertNotEqual(page.run(colour, "#why li"), page.run(colour, "#why li .none"))
             picture(page, "at-rest")
@@ -541,7 +539,8 @@ class Finishing(unittest.TestCase):
             self.assertTrue(page.run("return by('seed').parentElement.hidden"))
             page.fill("#limit", "200")
             page.click(page.find("#run"))
-            page.says("rounds", "a record goes round loop f (0): in the last 200 steps its counter grows from 0 to 99")
+            said = "a record goes round loop f (0): in the last 200 steps its counter grows from 0 to 99"
+            page.says("rounds", said)
             page.press("home")
             page.at(0, "the start")
             page.press("right")

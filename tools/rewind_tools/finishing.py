@@ -1,9 +1,9 @@
 """How a point can still finish, for every tool alike: what somebody outside must do and what the protocol
 then does; the fewest steps; and whether a run goes round a loop.
 
-    way = way_of(ask, graph, query)      a Way for a query 'why'; `ask` asks a copy of the session, which moves
+    way = way_of(ask, graph, query)      a Way for a query 'why'; `ask` asks a copy that may move
     way.lines                            the lines that lead to the point's end, none if there is no way
-    way.words(holds)                     what is left at rest, each line in words, and what is left after them
+    way.words(holds)                     what is left at rest, each line in words, what is left after them
     way_shown(ask, graph, asked)         the same for the page
     fewest(ask, graph, asked)            the fewest steps, or that there are none
     Rounds()                             what stays said of a run that goes round a loop"""
@@ -21,6 +21,7 @@ STATES, MOST_STATES = 1000, 1_000_000
 LOOKED_BACK, ROUNDS = 300, 3
 # How many lines a way has at most; with which seeds a run by lot is tried, and how long it is.
 MOST_LINES, SEEDS, LOT = 1000, (1, 2, 3), 2000
+FINISHED = "it is finished already"
 NOT_MOVES = "feeds with values, sends and moves of capabilities are not among the steps that are tried"
 # What each kind of step is.
 KINDS = {
@@ -154,16 +155,18 @@ def way_shown(ask, graph, asked):
     query = {"do": "why", **{key: asked[key] for key in keys}}
     now = ask(query)
     if "error" in now or now["passed"]:
-        return {"error": error_words(now)} if "error" in now else {"words": "it is finished already", "steps": []}
+        return {"error": error_words(now)} if "error" in now else {"words": FINISHED, "steps": []}
     way = way_of(ask, graph, query)
     then = json.loads(asked["then"]) if asked.get("then") else None
     if way.last["passed"] and then and "error" not in ask(then):
         way.lines.append(then)
     first, lines, notes = way.words(graph.holds)
-    steps = [
-        {"kind": it["do"], "words": plain(words), "line": json.dumps(it)} for it, words in zip(way.lines, lines)
-    ]
+    steps = [shown(*it) for it in zip(way.lines, lines)]
     return {"words": plain(first), "steps": steps, "notes": [*map(plain, notes)], "ends": way.last["passed"]}
+
+
+def shown(line, words):
+    return {"kind": line["do"], "words": plain(words), "line": json.dumps(line)}
 
 
 def error_words(reply):
@@ -184,12 +187,9 @@ def fewest(ask, graph, asked):
     if reply["steps"] is None:
         return nowhere(reply, limit)
     steps = reply["steps"] + ([json.loads(asked["then"])] if asked.get("then") else [])
-    shown = [
-        {"kind": it["do"], "words": plain(command_words(it)), "what": KINDS[it["do"]], "line": json.dumps(it)}
-        for it in steps
-    ]
-    words = f"by {counted(len(shown), 'step')}, and no fewer:" if shown else "it is finished already"
-    return {"steps": shown, "words": words, "ends": True}
+    words = f"by {counted(len(steps), 'step')}, and no fewer:" if steps else FINISHED
+    told = [{**shown(it, command_words(it)), "what": KINDS[it["do"]]} for it in steps]
+    return {"steps": told, "words": words, "ends": True}
 
 
 def plain(text):
@@ -222,8 +222,8 @@ def steps_back(reply):
 
 
 def rounds(ask, graph, reply, when="in the last"):
-    """Of a run that stopped before it came to rest, which loop a record goes round and how the loop's counter
-    grows; an empty text if none grew in its last steps."""
+    """Of a run that stopped before it came to rest, which loop a record goes round and how the loop's
+    counter grows; an empty text if none grew in its last steps."""
     return loop_words([ask({"do": "step", "to": it})["step"] for it in steps_back(reply)], graph, when)
 
 
@@ -249,8 +249,8 @@ def loop_words(steps, graph, when="in the last"):
 
 
 class Rounds:
-    """What is said of a run that went round a loop, at each position from its begin on, until other steps are
-    kept there or a run comes to rest."""
+    """What is said of a run that went round a loop, at each position from its begin on, until other steps
+    are kept there or a run comes to rest."""
 
     def __init__(self):
         self.begin, self.words = 0, ""

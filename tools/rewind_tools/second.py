@@ -4,8 +4,8 @@ and the question ends at once when it is stopped.
     second = Second(journal, report)
     second.ask(line, *second.here())    the reply to a line; Stopped, if it was stopped
     second.at_rest(query)               the reply to a query 'why', at rest
-    second.try_out(work, *second.here())    what `work` returns, which is given how to ask the program, and may
-                                        execute steps from there on: the session's own stay as they are
+    second.try_out(work, *second.here())    what `work` returns, which is given how to ask the program: it
+                                            may execute steps, and those of the session stay as they are
     second.stop()                       kills the program, from any thread
 
 The program starts with the first question, and is brought to the steps that a question is about: by those

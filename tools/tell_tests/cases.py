@@ -505,8 +505,8 @@ TOLD = {
         (8, "no step leads to position 0"),
         (9, "processor 0 gives up its token of a, which was at epoch 0"),
         (10, "which times can still arrive at z, as far as processor 0 knows? (0), and all that are later"),
-        (11, "why does processor 0 not consider all that is strictly before s (0) finished? it finishes, by any "
-            "order"),
+        (11, "why does processor 0 not consider all that is strictly before s (0) finished? it finishes, by"
+            " any order"),
         (11, "processor 0 does not know that all that is"),
         (11, "it still counts 1 at a (0); nothing is held there; not heard: an update of -1 by processor "
             "0, not yet broadcast"),

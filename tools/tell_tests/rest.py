@@ -1,5 +1,5 @@
-"""What tools/test_tell tells of rest, in scripts of all versions: what is left, how it can finish, which loop
-goes round."""
+"""What tools/test_tell tells of rest, in scripts of all versions: what is left, how that can finish, and
+which loop goes round."""
 import json
 
 from live_tests.served import around
@@ -7,11 +7,17 @@ from tell_tests.cases import A, Z, do, edge, graph, vertex
 
 V3, V5, V8 = ('{"version":%d}' % it for it in (3, 5, 8))
 EXCHANGE = json.dumps(graph([A, Z], [edge("az", "a", "z", route="exchange")]))
-SUM = json.dumps(graph([A, vertex("s", "sum"), Z], [edge("as", "a", "s"), edge("sz", "s", "z")]))
-HELD = json.dumps(graph([A, vertex("h", "hold"), Z], [edge("ah", "a", "h"), edge("hz", "h", "z")]))
-ADD = json.dumps(graph([A, vertex("m", "add", k=1), Z], [edge("am", "a", "m"), edge("mz", "m", "z")]))
 GREATEST = 9223372036854775807
-FEEDS_ON = "somebody must: processor 1 feeds nothing into a and goes on to the next epoch, or gives up its token"
+FEEDS_ON = "somebody must: processor 1 feeds nothing into a and goes on to the next epoch, or gives up its"
+
+
+def line_of(name, op, **more):
+    """The line of a graph from an input through a vertex to a sink."""
+    edges = [edge(f"a{name}", "a", name), edge(f"{name}z", name, "z")]
+    return json.dumps(graph([A, vertex(name, op, **more), Z], edges))
+
+
+SUM, HELD, ADD = line_of("s", "sum"), line_of("h", "hold"), line_of("m", "add", k=1)
 
 
 def feed(p, values, end="close"):
@@ -47,7 +53,7 @@ REST_TOLD = {
     "how a token can finish": (["--processors", "2"], [
         V3, SUM, feed(0, [2]), feed(1, [3], "stay"), do("run", limit=100), why(), why(),
     ], 0, [
-        (6, f"this stays: the token of processor 1 at a (0) {FEEDS_ON} the protocol then does"),
+        (6, f"this stays: the token of processor 1 at a (0) {FEEDS_ON} token the protocol then"),
         (7, "this stays: the token of processor 1 at a (0) processor 0 does not know"),
     ], [(7, "somebody must")]),
     "a capability": ([], [V5, HELD, feed(0, [7]), why()], 0, [
@@ -59,8 +65,8 @@ REST_TOLD = {
             f"value {GREATEST} on processor 0 at am (0)"),
     ]),
     "a loop": ([], [*around(), do("run", limit=200), do("run", limit=3)], 0, [
-        (3, "that is the limit the cursor is at 201 of 201 kept steps a record goes round loop f (0): in the "
-            "last 200 steps its counter grows from 0 to 99"),
+        (3, "that is the limit the cursor is at 201 of 201 kept steps a record goes round loop f (0): in "
+            "the last 200 steps its counter grows from 0 to 99"),
         (3, "me (0,2) | 1* | . | 1* and 97 more rounds of loop f, to me (0,99) and 1 point as before"),
     ], [(4, "goes round")]),
     "several clients": (["--clients", "2"], [

@@ -71,8 +71,8 @@ def rows_of(now, before):
 
 
 def folded(rows, loops):
-    """The rows, each with the line after it: how many more rounds of a loop have the same numbers at the same
-    place. 'loops' has the name of the loop of each place that is in one."""
+    """The rows, each with the line after it: how many more rounds of a loop have the same numbers at the
+    same place. 'loops' has the name of the loop of each place that is in one."""
     kept, at = [], 0
     while at < len(rows):
         (place, time), *cells = rows[at]
@@ -83,7 +83,8 @@ def folded(rows, loops):
         shown = same if same <= ROUNDS + 1 else ROUNDS
         kept += [(it, None) for it in rows[at : at + shown]]
         if shown < same:
-            more = f"and {same - shown} more rounds of loop {loops[place]}, to {place} {time_in(rows[at + same - 1][0][1])}"
+            last = time_in((*time[:-1], time[-1] + same - 1))
+            more = f"and {same - shown} more rounds of loop {loops[place]}, to {place} {last}"
             kept[-1] = kept[-1][0], more
         at += same
     return kept
