@@ -57,7 +57,7 @@ class Ways(unittest.TestCase):
     def test_by_the_page(self):
         """The way of docs/LIVE.md from the command to the reason and on: what it quotes the page says."""
         command, quoted = steps_of_page()
-        position, notice, reason, fed, broadcast, receive, again = quoted
+        position, notice, reason, must = quoted
         begun = time.monotonic()
         with ServedBy(command) as live, Page(live) as page:
             while page.run(TEXT, "cursor") != position:
@@ -71,16 +71,13 @@ class Ways(unittest.TestCase):
             print(
                 f"live: from the command to the reason by the steps of docs/LIVE.md: {seconds:.1f} seconds"
             )
-            page.run(CHOOSE, 0, fed)
-            page.click(page.find(FEED))
+            page.click_text("#candidates button", "How can this finish?")
+            page.says("why", must)
+            page.click_text("#why button", "execute these 5 steps")
             page.wait(lambda: page.run(WARNS), "the warning")
             page.click(page.find("#go-on"))
-            for words in (broadcast, receive, again):
-                at = page.wait(lambda: page.run(POSITION), "the step before")
-                page.click_text("#candidates button:not(.waits)", words)
-                page.wait(lambda: page.run(POSITION) != at, words)
+            page.at(16, "the steps")
             page.says("effect", "runs the notification of total")
-            self.assertEqual(page.run(POSITION), "15")
 
     def test_by_clicks(self):
         """Load the stuck program, click the notice that waits, read why, let the others go on, and save."""
