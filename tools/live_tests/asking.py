@@ -9,6 +9,14 @@ from rewind_tools.live.server import Live
 from rewind_tools.session import Session
 
 
+def whole_overview(live, asked):
+    """What is known of all kept steps, once all of it is."""
+    told = live.asked("overview", asked)
+    while not told["whole"]:
+        told = live.asked("overview", asked)
+    return told
+
+
 class Stuck(unittest.TestCase):
     @classmethod
     def setUpClass(cls):
@@ -39,14 +47,23 @@ class Stuck(unittest.TestCase):
         )
         back = self.live.command({"do": "jump", "to": 12})["picture"]
         self.assertTrue(back["at"] == 12 and back["kept"] == ran["picture"]["kept"], back["kept"])
-        when = {"passed": {"q": 0, "at": "out", "time": [0]}}
-        turns = self.live.asked("picture", {"sight": {"when": when}})["picture"]["turns"]
-        self.assertTrue(
-            turns["at_lo"] is False and len(turns["turns"]) == 1 and turns["to"] == back["kept"], turns
-        )
+        self.knowing(back["kept"])
         late = self.live.post("command", {"line": '{"do":"back"}', "revision": 0})
         self.assertTrue(late[0] == 409 and "another tab" in late[2], late)
         self.saved()
+
+    def knowing(self, kept):
+        """From where on each processor knows that out (0) is finished: not before it is so in truth, which
+        the condition of the person's own says, too."""
+        why = {"q": 0, "at": "out", "time": [0]}
+        told = whole_overview(self.live, {"why": why, "when": {"finished": {"at": "out", "time": [0]}}})
+        self.assertEqual([it["at_lo"] for it in told["lanes"]], [False] * 4)
+        for lane in told["lanes"]:
+            self.assertTrue(len(lane["turns"]) == 1 and lane["to"] == kept, lane)
+        *known, truth, own = [it["turns"][0] for it in told["lanes"]]
+        self.assertTrue(own == truth <= min(known), told["lanes"])
+        self.assertEqual(told["times"][0], [0, [[[0]], [[0]]]])
+        self.assertEqual([it[0] for it in told["times"]], [*range(kept + 1)])
 
     def saved(self):
         """The saved script leads to the session's state."""

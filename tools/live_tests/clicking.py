@@ -394,21 +394,22 @@ class Going(unittest.TestCase):
             page.at(0, "a step back")
 
     def test_where_it_holds(self):
-        """Where a condition holds among many steps is looked for meanwhile, with how far that is."""
+        """Where a condition holds among many steps is looked for meanwhile: that of the point, or one that
+        is typed as at the prompt."""
         with Served([*around(), '{"do":"run","limit":2500}']) as live, Page(live) as page:
             page.click(page.find(".graph .vertex[data-place='5']"))
             page.says("why", "does not know that z (0) is finished")
-            page.run(WATCH)
+            page.tab("find")
             page.click_text("#when button", "show where it holds")
-            page.says("turns", "does not hold at the start, and that stays so")
-            page.wait(lambda: page.run("return waiting === 0"), "the end of the question")
-            self.assertNotIn("were looked at", page.run(TEXT, "turns"))
-            page.run("wantsTurns = false")
-            live.command({"do": "run", "limit": 2500})
-            page.at(5001, "more steps")
-            page.says("turns", "positions up to 2501 were looked at")
-            page.click_text("#when button", "show where it holds")
+            page.says("turns", "processor 0 has passed z (0): does not hold at the start, and that stays so")
             page.wait(lambda: "were looked at" not in page.run(TEXT, "turns"), "all positions")
+            page.fill("#when input", "count fm 0,1 1 and not passed 0 z 0")
+            page.click_text("#when button", "show where it holds")
+            # step 4 brings the record from mf (0,0) to fm (0,1), and step 5 takes it
+            page.says("turns", "does not hold at the start, and changes at 4, 5")
+            page.fill("#when input", "counted z 1")
+            page.click_text("#when button", "show where it holds")
+            page.says("said", "counted is no condition")
 
     def test_run_in_pieces(self):
         """A run in pieces ends as one: idle, with all steps counted, or at a breakpoint."""
@@ -418,6 +419,7 @@ class Going(unittest.TestCase):
         with Served([json.dumps(it) for it in given], ["--processors", "2"]) as live, Page(live) as page:
             page.click(page.find("#run"))
             page.says("said", "then stopped: breakpoint 0 holds")
+            page.tab("find")
             page.click_text("#breaks button", "remove")
             page.wait(lambda: "breakpoint" not in page.run(TEXT, "breaks"), "no breakpoint")
             page.click(page.find("#run"))
@@ -440,16 +442,16 @@ class Asking(unittest.TestCase):
             page.says("why", "processor 0 does not know that out (1) is finished")
             page.says("why", "can still arrive at out, as far as processor 0 knows: (1) and later")
 
-    def test_condition_without_point(self):
-        """A condition of no point is asked about, and no breakpoint is set."""
+    def test_breakpoint(self):
+        """A breakpoint on the point of a number of a view."""
         with stuck() as live, Page(live) as page:
-            page.click_text("#when button", "break when it holds")
-            page.says("said", "which point?")
-            self.assertNotIn("breakpoint", page.run(TEXT, "breaks"))
+            page.at(11, "the page")
+            page.tab("table")
             page.click(page.find("#points td button"))
-            page.says("why", "finished")
+            page.says("why", "does not know that words (0) is finished")
+            page.tab("find")
             page.click_text("#when button", "break when it holds")
-            page.says("breaks", "breakpoint 0")
+            page.says("breaks", "breakpoint 0processor 0 has passed words (0)")
 
     def test_wrong_time(self):
         with stuck() as live, Page(live) as page:

@@ -206,6 +206,10 @@ class Page(browser.Browser):
         """Waits until the page is at a position."""
         self.wait(lambda: self.run(POSITION) == str(position), what)
 
+    def tab(self, name):
+        """Opens a tab of the inspector."""
+        self.click_text("#tabs button", name)
+
     def says(self, element, words):
         """Waits until an element has some words."""
         self.wait(lambda: words in self.run(TEXT, element), words)

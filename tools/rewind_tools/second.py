@@ -6,6 +6,7 @@ and the question ends at once when it is stopped.
     second.at_rest(query)               the reply to a query 'why', at rest
     second.try_out(work, *second.here())    what `work` returns, which is given how to ask the program: it
                                             may execute steps, and those of the session stay as they are
+    second.ask_lines(texts, entries, 9) the replies to lines, as bytes, with the steps up to position 9
     second.stop()                       kills the program, from any thread
 
 The program starts with the first question, and is brought to the steps that a question is about: by those
@@ -49,6 +50,10 @@ class Second:
     def ask(self, value, entries, at):
         """The reply to a line at a position among steps."""
         return self.with_program(lambda ask: ask(value), entries, at, value.get("hi", 0))
+
+    def ask_lines(self, texts, entries, position):
+        """The replies to lines of a program that has at least the steps up to a position, all as bytes."""
+        return self.with_program(lambda ask: self.session.ask_lines(texts), entries, position)
 
     def try_out(self, work, entries, at):
         """What some work returns that executes steps from a position on."""

@@ -4,15 +4,16 @@ import json
 from rewind_tools.live.sight import (
     CANDIDATES,
     POINTS,
+    STEPS,
+    MOST_STEPS,
     cut,
     messages,
     page_of,
     plain,
-    shown_step,
+    item,
     state_in_sight,
     window,
 )
-from rewind_tools.live.turned import Turned
 from rewind_tools.second import FEW
 from rewind_tools.telling.commands import at, command_words, processor_of, time_in
 from rewind_tools.telling.effects import effect_words
@@ -51,14 +52,13 @@ class Pictures:
         self.ops = {name: it["op"] for name, it in teller.graph.vertices.items()}
         self.distincts = {name for name, op in self.ops.items() if op == "distinct"}
         self.depths = depths_of(session.graph)
-        self.steps, self.fronts, self.turned = {}, {}, Turned(session)
+        self.steps, self.fronts = {}, {}
         self.here, self.tried, self.most_entries = (None, None), (None, None), 0
         self.marks = []
 
     def forget_from(self, position):
         """Forgets what leads to positions past this one, since other steps may be kept there."""
         self.steps = {it: step for it, step in self.steps.items() if it <= position}
-        self.turned.forget_from(position)
 
     def mark(self, position, worker, words):
         """Marks on a worker's lane, after the step that leads to a position, what was refused there."""
@@ -91,38 +91,45 @@ class Pictures:
         """The picture at the cursor. `sight` names what else is in sight: the numbers of the first point and
         the first candidate, None for no candidates; how many points, the question why a point is not
         finished, a condition, and whether what the last step changed is; each may lack."""
-        first, last = window(cursor, kept)
         has_effect = sight.get("effect", True)
         state, fronts, effect = self.at_cursor(cursor, revision, has_effect)
-        steps = self.steps_in(first, last)
         effect = self.effect(effect[0], cursor) if effect else None
         rows = sight.get("points", 0), sight.get("rows", POINTS)
         return {
             "at": cursor,
             "kept": kept,
-            "state": state_in_sight(state, self.order, self.ops, fronts, rows),
+            "state": self.shown_state(state, fronts, rows),
             "inputs": self.inputs(state),
             "candidates": self.candidates(revision, sight.get("candidates", 0)),
             "effect": effect,
             "marked": effect["places"] if effect else [],
-            "steps": {
-                "first": first,
-                "items": [self.shown_step(*it) for it in enumerate(steps, first)],
-                "messages": messages(steps, first, cursor, state["queues"]),
-            },
+            "steps": self.in_window(cursor, kept, state["queues"], sight),
             "marks": self.marks,
             "breaks": [{"id": key, "when": plain(when)} for key, when in sorted(self.teller.breaks.items())],
             "why": self.why(sight["why"]) if sight.get("why") else None,
-            "turns": self.turns(sight["when"], cursor, kept) if sight.get("when") else None,
         }
 
-    def shown_step(self, position, step):
-        shown = shown_step(position, step)
-        return {**shown, "words": self.with_place(position, shown["words"])}
+    def shown_state(self, state, fronts, rows):
+        return state_in_sight(state, self.order, self.ops, fronts, rows)
 
-    def turns(self, when, cursor, kept):
-        """Where a condition turns, as far as that is known."""
-        return self.turned.of(when, cursor, kept, window(cursor, kept))
+    def in_window(self, cursor, kept, queues, sight):
+        """The steps in sight, with the updates between processors; of many their positions alone."""
+        if not sight.get("steps", True):
+            return None
+        first, last = window(cursor, kept, sight.get("count", STEPS), sight.get("first"))
+        if last - first >= MOST_STEPS:
+            return {"first": first, "last": last, "items": [], "messages": []}
+        steps = self.steps_in(first, last)
+        return {
+            "first": first,
+            "last": last,
+            "items": [self.shown_item(*it) for it in enumerate(steps, first)],
+            "messages": messages(steps, first, cursor, queues),
+        }
+
+    def shown_item(self, position, step):
+        shown = item(position, step)
+        return {**shown, "words": self.with_place(position, shown["words"])}
 
     def steps_in(self, first, last):
         """The steps that lead to the positions of a window."""
@@ -235,6 +242,8 @@ class Pictures:
                     "words": plain(count_words(it, self.holds)),
                     "news": plain(news_words(it)),
                     "place": self.order[it["point"][0]],
+                    "at": it["point"][0],
+                    "time": it["point"][1],
                 }
                 for it in reply["reasons"][:MOST_REASONS]
             ],

@@ -11,14 +11,16 @@ import time
 from http.server import BaseHTTPRequestHandler, ThreadingHTTPServer
 from urllib.parse import urlsplit
 
-from rewind_tools import finishing, opening
+from rewind_tools import finishing, opening, typed
 from rewind_tools.journal import Journal, Stopped, opened_by
+from rewind_tools.live.over_time import OverTime
 from rewind_tools.live.pictures import Pictures
-from rewind_tools.live.turned import PIECE
+from rewind_tools.live.turned import Turned
 from rewind_tools.page import FILES, live_page, part
 from rewind_tools.script import COMMANDS, STEPS
 from rewind_tools.second import Second
 from rewind_tools.session import Ended
+from rewind_tools.showing.recorded import page_of
 from rewind_tools.telling import faults, names
 from rewind_tools.telling.answers import Teller
 from rewind_tools.telling.commands import FIRM, counted, processor_of
@@ -36,6 +38,11 @@ BEAT, PATIENCE = 0.25, 4.0
 SHORT_REACH, LONG_REACH = 2000, 1_000_000
 # The program keeps a checkpoint only after 4 steps for each entry of a state, and 1,024 at least.
 STEPS_PER_ENTRY, FEW = 4, 8192
+# For how long one question looks at all kept steps, and how many points a compared state has.
+WHILE, MOST_ROWS = 0.3, 400
+# The questions that are asked of the second program, each with the method that answers it.
+FINISHING = ("finish", "fewest")
+ASIDE = {"overview": "overview", "find": "find", "state": "state_at", "export": "export"}
 
 
 class Refused(Exception):
@@ -61,6 +68,7 @@ class Live:
         )
         self.journal = Journal(session, name, say)
         self.pictures = Pictures(session, self.teller, self.journal.with_place)
+        self.over = OverTime(self.teller.graph, Turned(), self.teller.processors)
         self.second = Second(self.journal, self.show_progress)
         self.revision, self.ended, self.progress = 0, None, ""
         self.rounds = finishing.Rounds()
@@ -91,9 +99,9 @@ class Live:
         self.lock.acquire(timeout=1)  # a step that was answered is still written
         return self.journal.close()
 
-    def execute(self, lines, marks=None):
+    def execute(self, lines, marks=()):
         """Executes a script's lines before a page is there; returns why some were refused. `marks` has what
-        else was refused, by the number of the step before it or "end" (rewind_tools/sources.py)."""
+        else was refused (rewind_tools/sources.py)."""
         refused, self.journal.report, last = [], Progress(self.say).report, 0
         for entry in opening.executed(self.journal, lines, True):
             if "line" not in entry.reply:
@@ -132,7 +140,7 @@ class Live:
         self.rounds.note(self.session.ask, self.teller.graph, value, reply, before[0])
         has_moved = (self.at, self.kept) != before
         if has_moved and value["do"] in (*STEPS, "run"):
-            self.pictures.forget_from(before[0])
+            self.forget_from(before[0])
         if has_moved or value["do"] in ("break", "unbreak"):
             self.revision += 1
         gone = f"{counted(count, 'kept step')} discarded, which can be brought back" if count else None
@@ -159,8 +167,13 @@ class Live:
         finally:
             self.progress = ""
         self.revision += 1
-        self.pictures.forget_from(0)
+        self.forget_from(0)
         return self.told({}, [words], asked)
+
+    def forget_from(self, position):
+        """Forgets what leads to positions past this one, since other steps may be kept there."""
+        self.pictures.forget_from(position)
+        self.over.forget_from(position)
 
     def check_revision(self, asked):
         if asked.get("revision") != self.revision:
@@ -177,7 +190,8 @@ class Live:
         """The picture at the cursor, with what is in sight of it."""
         picture = self.pictures.of(self.at, self.kept, self.revision, sight)
         picture.update({"dropped": len(self.journal.dropped), "reach": self.reach()})
-        picture["rounds"] = self.rounds.at(self.at).replace(FIRM, " ")
+        rounds = self.rounds.at(self.at).replace(FIRM, " ")
+        picture.update({"rounds": rounds, "changes": self.journal.changes})
         return {"revision": self.revision, "picture": picture}
 
     def reach(self):
@@ -189,13 +203,14 @@ class Live:
         """The answer to a question of a page, by its path."""
         if self.ended:
             raise Refused(503, self.ended)
-        self.is_cancelled = path == "cancel"
+        if path != "overview":  # which the page asks by itself
+            self.is_cancelled = path == "cancel"
+        if path in FINISHING or path in ASIDE:
+            return self.asked_second(path, asked)
         if self.is_cancelled:
             self.second.stop()
             return {}
         try:
-            if path in ("finish", "fewest", "turns"):
-                return self.asked_second(path, asked)
             with self.lock:
                 return self.answered(path, asked)
         except Ended as fault:
@@ -204,7 +219,7 @@ class Live:
     def asked_second(self, path, asked):
         """The answer to a question that may take long. Others are answered meanwhile."""
         try:
-            return self.turns(asked["when"]) if path == "turns" else self.finish(path, asked)
+            return self.finish(path, asked) if path in FINISHING else getattr(self, ASIDE[path])(asked)
         except Stopped as fault:
             return {"stopped": str(fault)}
         finally:
@@ -221,22 +236,59 @@ class Live:
             told = self.second.try_out(lambda ask: finishing.way_shown(ask, graph, asked), *here)
         return {**told, "revision": revision}
 
-    def turns(self, when):
-        """Looks for turns among the positions that are not known, until another step is kept."""
-        turned = self.pictures.turned
+    def overview(self, asked):
+        """What is known of all kept steps, after looking for what is not for a while."""
+        until, job = time.monotonic() + WHILE, True
+        while job and time.monotonic() < until:
+            job = self.look(lambda: self.over.next_job(asked, self.kept))
         with self.lock:
-            (entries, _), kept, changes = self.second.here(), self.kept, self.journal.changes
-        while changes == self.journal.changes:
-            with self.lock:
-                line = turned.next_line(when, kept, PIECE)
-            if not line:
-                break
-            reply = self.second.ask(line, entries, line["lo"])
+            told = self.over.told(asked, self.kept)
+            return {**told, "whole": not job, "changes": self.journal.changes}
+
+    def look(self, next_job):
+        """Has the second program do a job, if there is one. Its result counts unless other steps are kept
+        meanwhile."""
+        with self.lock:
+            job, (entries, _) = next_job(), self.second.here()
+            kept, changes = self.kept, self.journal.changes
+        if job:
+            replies = job.ask(lambda texts: self.second.ask_lines(texts, entries, kept))
             with self.lock:
                 if changes == self.journal.changes:
-                    turned.add(line, reply)
-            self.progress = f"looked at {line['hi']} of {kept} positions"
-        return {}
+                    job.add(replies)
+        return job
+
+    def find(self, asked):
+        """The steps of a kind, of a processor, at a location or a time."""
+        while self.look(lambda: self.over.reading(asked, self.kept)):
+            self.progress = f"read {len(self.over.replies)} of {self.kept} steps"
+        with self.lock:
+            return self.over.find(asked)
+
+    def export(self, asked):
+        """The page of the kept steps as one file, those after the cursor too."""
+        with self.lock:
+            script, places = self.journal.script().encode(), self.journal.places()
+            marks = [(it["at"], it["p"], it["words"]) for it in self.pictures.marks if it["at"] <= self.kept]
+        given = {"marks": marks, "places": places, "is_at_end": True}
+        return {"page": page_of(self.name, script, self.session.words, report=self.go_on, **given)[0]}
+
+    def go_on(self, text):
+        """Notes how far something long is, which ends if it is cancelled."""
+        self.progress = text
+        if self.is_cancelled or self.is_closing:
+            raise Stopped("cancelled")
+
+    def state_at(self, asked):
+        """The state at another position than the cursor's, as the page shows it."""
+        at = int(asked["at"])
+        frontiers = [{"do": "frontier", "q": q} for q in range(self.teller.processors)]
+        lines = [{"do": "jump", "to": at}, {"do": "state"}, *frontiers]
+        with self.lock:
+            (entries, _), kept = self.second.here(), self.kept
+        texts = [json.dumps(it).encode() for it in lines]
+        _, state, *fronts = map(json.loads, self.second.ask_lines(texts, entries, kept))
+        return {"state": self.pictures.shown_state(state["state"], fronts, (0, MOST_ROWS))}
 
     def answered(self, path, asked):
         if path == "picture":
@@ -250,6 +302,8 @@ class Live:
             return self.bring_back(asked)
         if path == "why":
             return self.pictures.why(asked)
+        if path == "condition":
+            return typed_condition(asked["text"])
         if path == "save":
             self.journal.saved()
             return {"script": self.journal.script(), "words": self.session.words}
@@ -258,6 +312,14 @@ class Live:
     def page(self):
         """The page, with the graph in it."""
         return live_page(self.session.graph, self.name, self.teller.processors)
+
+
+def typed_condition(text):
+    """The condition that is typed as at the prompt, or what is wrong with it."""
+    try:
+        return {"when": typed.line_of(["break", *typed.words_of_line(text)], said="condition")["when"]}
+    except typed.NotTyped as fault:
+        return {"error": str(fault)}
 
 
 def host_of(address):

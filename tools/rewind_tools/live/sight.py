@@ -1,12 +1,14 @@
 """What is in sight of a session on its page. Each part is cut to a length that grows neither with the kept
 steps nor with what is outstanding."""
 from rewind_tools.showing.states import changes, frontiers_of, kinds_of, place_counts, point_row, queues_of
-from rewind_tools.telling.commands import FIRM, command_words, processor_of
+from rewind_tools.telling.commands import FIRM, at, command_words, processor_of, time_in
 from rewind_tools.telling.table import Points
 
 # How much is in sight: positions around the cursor, candidates, points of the table, things of one kind that
 # a processor holds, times at a place, changes of a queue, and entries of a change.
 STEPS, CANDIDATES, POINTS, HELD, TIMES, CHANGES, ENTRIES = 60, 60, 60, 40, 20, 12, 8
+# Up to how many steps in sight are listed, each by itself, and how many values a label has.
+MOST_STEPS, LABELLED = 400, 3
 
 
 def plain(text):
@@ -58,19 +60,44 @@ def held_in_sight(processor, ops):
     }
 
 
-def window(cursor, kept):
-    """The first and the last position in sight."""
-    first, last = cursor - STEPS // 2, cursor + STEPS // 2
-    return max(1, min(first, kept - STEPS + 1)), min(kept, max(last, STEPS))
+def window(cursor, kept, count=STEPS, first=None):
+    """The first and the last step in sight, of so many: from `first` on if the cursor is there, else around
+    the cursor. page/time.js has the same."""
+    if first is None or not first - 1 <= cursor < first + count:
+        first = cursor - count // 2
+    first = max(1, min(first, kept - count + 1))
+    return first, min(kept, first + count - 1)
 
 
-def shown_step(position, step):
+def key_of(place, time, value):
+    """A record, by which the arrow to it finds the step that takes it."""
+    return f"{plain(at(place, time))} {value}"
+
+
+def item(position, step):
+    """A step as the page shows it; of a take also the record."""
+    more = {"takes": key_of(step["edge"], step["time"], step["value"])} if step["do"] == "take" else {}
+    more.update({"from": step["from"]} if step["do"] == "receive" else {})
+    more.update({"at": step.get("vertex", step.get("edge"))} if {"vertex", "edge"} & step.keys() else {})
+    more.update({"time": time_in(step["time"])} if "time" in step else {})
     return {
         "position": position,
         "kind": step["do"],
         "p": processor_of(step),
         "words": plain(command_words(step)),
+        "label": plain(label(step)),
+        **more,
     }
+
+
+def label(step):
+    """A step in a word or two."""
+    kind = step["do"]
+    if kind in ("feed", "send"):
+        return ",".join(map(str, step["values"][:LABELLED])) + ".." * (len(step["values"]) > LABELLED)
+    if kind in ("notice", "release"):
+        return at(step["vertex"], step["time"])
+    return {"take": str(step.get("value")), "receive": f"from {step.get('from')}"}.get(kind, "")
 
 
 def queue_moves(step, processors):

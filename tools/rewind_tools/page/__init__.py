@@ -9,7 +9,7 @@ from html import escape
 from rewind_tools.showing.graphs import graph_svg, laid_out
 
 FOLDER = os.path.dirname(os.path.abspath(__file__))
-SHARED = ("base.js", "steps.js", "drawing.js", "panels.js")
+SHARED = ("base.js", "time.js", "drawing.js", "panels.js", "address.js")
 SCRIPTS = {
     "live": (*SHARED, "held.js", "finishing.js", "live.js", "keys.js"),
     "recorded": (*SHARED, "recorded.js", "keys.js"),
@@ -18,15 +18,11 @@ FILES = {
     "page.css": "text/css; charset=utf-8",
     **{it: "text/javascript; charset=utf-8" for it in SCRIPTS["live"]},
 }
-# How wide a graph may be to stand beside the other panels.
-WIDEST_BESIDE = 600
-# From how many processors on the table of their views has all of the width.
-MANY = 5
 KEYS = {
     "live": "Keys: left and right undo and redo, Home and End go to the ends, n executes the next step, r"
-    " runs, s saves, Tab and Enter reach every button.",
+    " runs, s saves, + and - show fewer or more steps, 0 all; Tab and Enter reach every button.",
     "recorded": "Keys: left and right go one position back or forward, page up and page down one line, Home"
-    " and End to the ends.",
+    " and End to the ends, + and - show fewer or more steps, 0 all.",
 }
 WORDS = {
     "live": {
@@ -46,11 +42,11 @@ def part(name):
 
 
 def places_of(graph):
-    """The vertices and edges by name, each with what it is; an opaque vertex has the number of its ports."""
-    return [
-        {"name": it["name"], "op": it.get("op", "edge"), **{key: it[key] for key in ("ports",) if key in it}}
-        for it in graph["vertices"] + graph["edges"]
-    ]
+    """The vertices and edges by name, each with what it is; an opaque vertex has the number of its ports,
+    and an edge the vertex that it enters."""
+    kept = ("name", "op", "ports", "to")
+    places = graph["vertices"] + graph["edges"]
+    return [{"op": "edge", **{key: it[key] for key in kept if key in it}} for it in places]
 
 
 def filled(kind, values):
@@ -60,13 +56,12 @@ def filled(kind, values):
     return "".join(values[it] if at % 2 else it for at, it in enumerate(pieces))
 
 
-def graph_of(graph, processors, uses_dot=True):
+def graph_of(graph, uses_dot=True):
     """The values of a page that are about its graph."""
-    svg, width = graph_svg(graph, laid_out(graph, uses_dot))
+    svg = graph_svg(graph, laid_out(graph, uses_dot))
     has_loops = any(it["depth"] for it in graph["vertices"])
     loops = '<span class="key"><i class="loop"></i>a loop</span>' if has_loops else ""
-    size = ["large"] * (width > WIDEST_BESIDE) + ["many"] * (processors >= MANY)
-    return {"graph": svg, "size": " ".join(size), "loops": loops}
+    return {"graph": svg, "loops": loops}
 
 
 def live_page(graph, name, processors):
@@ -74,7 +69,7 @@ def live_page(graph, name, processors):
     about = {"processors": processors, "places": places_of(graph), "name": name}
     values = {
         "title": escape(name), "about": escape(json.dumps(about)), "command": "", "last": "0",
-        **graph_of(graph, processors),
+        **graph_of(graph),
         "style": '<link rel="stylesheet" href="page.css">',
         "scripts": "\n".join(f'<script src="{it}"></script>' for it in SCRIPTS["live"]),
     }  # fmt: skip

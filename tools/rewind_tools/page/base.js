@@ -6,6 +6,8 @@ const SVG = "http://www.w3.org/2000/svg";
 const GREATEST = (1n << 63n) - 1n, GREATEST_COUNTER = (1n << 32n) - 1n, GREATEST_SEED = (1n << 64n) - 1n;
 // The picture that is shown, and the one before it, if one step leads from that to this.
 let picture = null, before = null;
+// What is in sight beside the cursor: the first point of the table and the first candidate by their numbers, and a condition.
+const sight = { points: 0, candidates: 0, when: null };
 
 function made(kind, text, className) {
   const it = document.createElement(kind);

@@ -1,13 +1,10 @@
 "use strict";
 // The page of a live session: it asks the server, one question after the other.
+const MOST_TURNS = 1000, LISTED_TURNS = 20;
 const FIRST_PIECE = 200, SMALLEST_PIECE = 20, LARGEST_PIECE = 20000, PIECE_TAKES = 250, BUSY_AFTER = 500, SLOW = 800;
-// What is in sight beside the cursor: the first point of the table and the first candidate by their numbers, and a condition.
-const sight = { points: 0, candidates: 0, when: null };
 const onlyChosen = new Set();
 // Whether the last command was refused, or not even answered.
 let isRefused = false;
-// Whether the turns of the condition are looked for among all kept steps.
-let wantsTurns = false;
 // Whether the picture is not that of the newest state that is known, and whether the last one took long.
 let isStale = false, isSlow = false;
 // The number of the session's newest state, as the server told it beside its answers.
@@ -60,7 +57,7 @@ function progress(text) {
 
 // The candidates are asked for after the picture, since the program tries each.
 function inSight() {
-  return { ...sight, candidates: null, why: chosen.time || chosen.place === null ? question() : null };
+  return { ...sight, ...view, candidates: null, why: chosen.time || chosen.place === null ? question() : null };
 }
 
 async function refresh() {
@@ -68,7 +65,7 @@ async function refresh() {
   return follow();
 }
 
-// What follows a picture: the candidates, unless another question waits, and the rest of the turns.
+// What follows a picture: the candidates, unless another question waits.
 async function follow() {
   if (waiting > 1) isStale = true;
   else {
@@ -77,7 +74,6 @@ async function follow() {
     else isStale = true;
     showCandidates();
   }
-  return followTurns();
 }
 
 function take(told) {
@@ -86,19 +82,38 @@ function take(told) {
   picture = told.picture;
   isStale = false;
   show();
+  lookAtAll();
 }
 
-// What is not known of the turns is looked for among all kept steps, which may take long.
-async function followTurns() {
-  const { turns, kept, candidates } = picture, known = revision;
-  if (isCancelled || !wantsTurns || !turns || turns.error || turns.more || turns.to >= kept) return;
-  const { stopped } = await asked("turns", { when: sight.when });
-  if (stopped) wantsTurns = false;
-  take(await asked("picture", { sight: inSight() }));
-  isStale = isStale || revision !== known;
-  picture.candidates = candidates;
-  showCandidates();
-  if (stopped) say(stopped, stopped !== CANCELLED);
+// ---- what is known of all kept steps, which is asked beside the other questions, a piece at a time
+
+let knownFor = "", isLooking = false;
+
+function isKnown() {
+  return JSON.stringify([picture.changes, overQuestion()]) === knownFor;
+}
+
+async function lookAtAll() {
+  if (isLooking) return;
+  isLooking = true;
+  try {
+    while (!isKnown()) {
+      const ask = overQuestion(), told = await asked("overview", ask);
+      if (told.stopped) break;
+      if (told.whole) knownFor = JSON.stringify([told.changes, ask]);
+      over = { ...told, about: JSON.stringify(ask.why), said: told.whole ? "" : `looked at ${lookedAt(told)} of ${told.kept}` };
+      showTime();
+      showTurns();
+    }
+  } catch (fault) {
+    if (fault.message !== GONE) say(fault.message, true);
+  } finally {
+    isLooking = false;
+  }
+}
+
+function lookedAt({ read, lanes }) {
+  return Math.min(read, ...lanes.filter((it) => !it.error).map((it) => it.to));
 }
 
 // ---- commands. A line is an object, or the text of one, whose numbers a browser would round.
@@ -201,16 +216,31 @@ function bringBack() {
   });
 }
 
+function download(text, kind, ending) {
+  const link = made("a");
+  link.href = URL.createObjectURL(new Blob([text], { type: kind }));
+  link.download = about.name.replace(/(\.jsonl)?$/, ending);
+  link.click();
+  URL.revokeObjectURL(link.href);
+  return link.download;
+}
+
 function save() {
   return inTurn(async () => {
-    const told = await asked("save", {});
-    const link = made("a");
-    link.href = URL.createObjectURL(new Blob([told.script], { type: "text/plain" }));
-    link.download = about.name.replace(/(\.jsonl)?$/, "-kept.jsonl");
-    link.click();
-    URL.revokeObjectURL(link.href);
+    const told = await asked("save", {}), name = download(told.script, "text/plain", "-kept.jsonl");
     document.body.dataset.saved = told.script;
-    say(`saved as ${link.download}; ./rewind ${told.words.join(" ")} < ${link.download} executes it again`);
+    say(`saved as ${name}; ./rewind ${told.words.join(" ")} < ${name} executes it again`);
+  });
+}
+
+// The page as one file with the kept steps, those after the cursor too.
+function exportPage() {
+  return inTurn(async () => {
+    progress("recording the page");
+    const told = await asked("export", {});
+    if (told.stopped) return say(told.stopped, true);
+    document.body.dataset.exported = told.page.length;
+    return say(`exported as ${download(told.page, "text/html", ".html")}`);
   });
 }
 
@@ -272,9 +302,17 @@ function showFeed() {
 
 const whenKinds = ["passed", "finished"];
 const whenControl = select("the condition", ["the processor has passed the point", "the point is finished in truth"], 0, () => {});
+const whenText = made("input");
 
-// The condition that is chosen; undefined, with a word to the person, if no point is.
-function atomOf() {
+// The condition that is typed, or that is chosen; undefined, with a word to the person, if there is none.
+async function conditionOf() {
+  const text = whenText.value.trim();
+  if (text) {
+    let told;
+    await inTurn(async () => { told = await asked("condition", { text }); });
+    if (told && told.error) say(told.error, true);
+    return told && told.when;
+  }
   if (chosen.place === null || !chosen.time) {
     say("which point? click a vertex, an edge or a number of a view first", true);
     return undefined;
@@ -283,27 +321,36 @@ function atomOf() {
   return whenKinds[whenControl.selectedIndex] === "passed" ? { passed: { q: chosen.q, at, time: chosen.time } } : { finished: { at, time: chosen.time } };
 }
 
-function buildConditions() {
-  by("when").append(
-    made("span", "of the processor and point that are asked about: "), whenControl,
-    button("show where it holds", () => { const when = atomOf(); if (when) { sight.when = when; wantsTurns = true; inTurn(refresh); } }),
-    button("break when it holds", () => { const when = atomOf(); if (when) execute({ do: "break", when }); }),
-  );
+async function withCondition(act) {
+  const when = await conditionOf();
+  if (when) await act(when);
 }
 
-function turnWords({ at_lo: atLo, turns, count, more, to }) {
+function buildConditions() {
+  whenText.size = 34;
+  whenText.placeholder = "as count out 0 1 and not passed 0 out 0";
+  whenText.setAttribute("aria-label", "a condition, as at the prompt");
+  by("when").append(
+    whenText, made("span", "or of the processor and point that are asked about:", "soft"), whenControl,
+    button("show where it holds", () => withCondition((when) => { sight.when = when; return inTurn(refresh); })),
+    button("break when it holds", () => withCondition((when) => execute({ do: "break", when }))),
+  );
+  by("when").addEventListener("submit", (event) => event.preventDefault());
+}
+
+function turnWords({ at_lo: atLo, turns, to }) {
   if (atLo === null) return "no position was looked at";
   const start = atLo ? "holds at the start" : "does not hold at the start";
-  const rest = to < picture.kept && !more ? `; positions up to ${to} were looked at` : "";
-  if (!count) return `${start}, and that stays so${rest}`;
-  const others = more || count > turns.length ? `, ... (${more ? "more than " : ""}${count} in all)` : "";
-  return `${start}, and changes at ${turns.join(", ")}${others}${rest}`;
+  const rest = to < picture.kept && turns.length < MOST_TURNS ? `; positions up to ${to} were looked at` : "";
+  if (!turns.length) return `${start}, and that stays so${rest}`;
+  const others = turns.length > LISTED_TURNS ? `, ... (${turns.length < MOST_TURNS ? "" : "at least "}${turns.length} in all)` : "";
+  return `${start}, and changes at ${turns.slice(0, LISTED_TURNS).join(", ")}${others}${rest}`;
 }
 
 function showTurns() {
-  const told = picture.turns, turns = (told && told.turns) || [];
+  const told = sight.when && over && over.lanes[laneCount()], turns = (told && told.turns) || [];
   const said = !told ? "" : told.error ? told.error : `${told.when}: ${turnWords(told)}`;
-  const buttons = turns.map((at) => {
+  const buttons = turns.slice(0, LISTED_TURNS).map((at) => {
     const it = button(`${at}`, () => jump(at));
     it.setAttribute("aria-label", `go to position ${at}`);
     return it;
@@ -326,6 +373,7 @@ function show() {
   showPicture();
   showFeed();
   showTurns();
+  noteAddress(picture.at);
 }
 
 function limit() {
@@ -383,6 +431,19 @@ const source = {
   finishButton,
   finishPart,
   goToStep: jump,
+  look: () => inTurn(refresh),
+  asked() { noteAddress(picture.at); lookAtAll(); },
+  goToAddress(at) { return at === null || at === picture.at ? inTurn(refresh) : jump(at); },
+  async states(positions) {
+    const states = [];
+    await inTurn(async () => { for (const at of positions) states.push((await asked("state", { at })).state); });
+    return states;
+  },
+  async find(wanted) {
+    let told;
+    await inTurn(async () => { told = await asked("find", wanted); });
+    return told;
+  },
   showFrom(key, first) { sight[key] = first; return inTurn(refresh); },
   async why(question_) {
     let told;
@@ -397,9 +458,11 @@ const source = {
     next: () => run(1),
     run: () => run(limit()),
     save,
+    export: exportPage,
     "bring-back": bringBack,
+    ...ZOOMS,
   },
-  keys: { ArrowLeft: "back", ArrowRight: "redo", Home: "first", End: "last", n: "next", r: "run", s: "save" },
+  keys: { ArrowLeft: "back", ArrowRight: "redo", Home: "first", End: "last", n: "next", r: "run", s: "save", ...ZOOM_KEYS },
 };
 
 const GONE = "the server is gone: this page shows what it answered last; start tools/live again, which names a file if steps were not saved";
@@ -432,4 +495,6 @@ buildFeed();
 buildConditions();
 showOnly();
 watchServer();
-inTurn(refresh);
+// The first picture, and then what the address names, or else what seems to be asked.
+const opened = location.hash;
+inTurn(refresh).then(() => (opened.length > 1 ? followAddress(opened) : askFirst()));

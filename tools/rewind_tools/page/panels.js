@@ -51,13 +51,32 @@ function explain(it) {
   return askWhy();
 }
 
+// From three processors on that wait alike, one row for all of them.
+const ALIKE = 3;
+
+function inGroups(items) {
+  const groups = new Map();
+  for (const it of items) {
+    const key = it.refused ? JSON.stringify([it.words, it.refused].map((text) => text.replaceAll(`processor ${it.p}`, "processor p"))) : it.line;
+    groups.set(key, [...(groups.get(key) || []), it]);
+  }
+  return [...groups.values()].flatMap((group) => (group.length < ALIKE ? group.map((it) => [it]) : [group]));
+}
+
+function candidateRow(group) {
+  const [it] = group;
+  if (group.length === 1) return candidate(it);
+  const all = processorsText(group.map((one) => one.p)), each = (text) => text.replaceAll(`processor ${it.p}'s view has`, "each view has").replaceAll(`processor ${it.p}`, all).replace(/ (runs|holds) /, (verb) => ` ${verb.trim().slice(0, -1)} `);
+  return candidate({ ...it, words: each(it.words), refused: each(it.refused) });
+}
+
 function showCandidates() {
   by("candidates").setAttribute("aria-busy", !picture.candidates);
   if (!picture.candidates) return;
-  const rows = picture.candidates.items.map(candidate);
+  const rows = inGroups(picture.candidates.items).map(candidateRow);
   const none = picture.inputs.length ? "no step is left but a feed" : "no step is left: every input is closed";
   redrawn(by("candidates"), ...(rows.length ? rows : [made("li", none, "none")]));
-  redrawn(by("more"), ...pager("candidates", picture.candidates, rows.length));
+  redrawn(by("more"), ...pager("candidates", picture.candidates, picture.candidates.items.length));
 }
 
 function showEffect() {
@@ -90,6 +109,17 @@ async function askWhy() {
   if (told.time) chosen.time = told.time;
   showPlaces();
   showWhy();
+  showTime();
+  source.asked();
+}
+
+// What seems to be asked, if nobody has asked: about a notification that waits, else about a sink or the last vertex.
+function askFirst() {
+  if (chosen.place !== null || !picture) return undefined;
+  const waits = picture.candidates && picture.candidates.items.find((it) => it.ask && it.kind === "notice");
+  if (waits) return explain(waits);
+  const sink = about.places.findIndex((it) => it.op === "sink"), vertices = about.places.filter((it) => it.op !== "edge");
+  return vertices.length ? choosePlace(sink >= 0 ? sink : vertices.length - 1) : undefined;
 }
 
 function choosePlace(number) {
@@ -228,14 +258,15 @@ function showPoints() {
   table.append(tableHead(), ...rows);
   const wide = made("div", undefined, "wide");
   wide.append(rows.length ? table : made("p", "nothing is outstanding", "none"));
+  wide.tabIndex = 0;
   const pages = pager("points", picture.state, picture.state.points.length);
   redrawn(by("points"), made("h2", "Truth, views and unsent updates"), ...pages, wide);
 }
 
-function processorRow(it, p) {
+// Processors that hold the same, and held the same before, have one row.
+function processorRow([numbers, it, old]) {
   const row = made("div", undefined, "row");
-  row.append(made("b", `processor ${p}`));
-  const old = before && before.state && before.state.processors[p];
+  row.append(made("b", processorsText(numbers)));
   for (const [kind, texts] of Object.entries(it)) {
     const isChanged = old && JSON.stringify(old[kind]) !== JSON.stringify(texts);
     if (!texts.length && !isChanged) continue;
@@ -252,8 +283,19 @@ function queueRow(it) {
   return row;
 }
 
+function alike(processors, old) {
+  const rows = new Map();
+  processors.forEach((it, p) => {
+    const key = JSON.stringify([it, old && old[p]]);
+    if (rows.has(key)) rows.get(key)[0].push(p);
+    else rows.set(key, [[p], it, old && old[p]]);
+  });
+  return [...rows.values()];
+}
+
 function showProcessors() {
-  by("processors").replaceChildren(made("h2", "What each processor holds"), ...picture.state.processors.map(processorRow));
+  const rows = alike(picture.state.processors, before && before.state && before.state.processors);
+  by("processors").replaceChildren(made("h2", "What each processor holds"), ...rows.map(processorRow));
   const queues = picture.state.queues.map(queueRow), none = made("p", "all queues are empty", "none");
   by("queues").replaceChildren(made("h2", "Updates on their way, the first to arrive first"), ...(queues.length ? queues : [none]));
 }
@@ -276,7 +318,7 @@ function showBreaks() {
 // ---- all
 
 function showPicture() {
-  showSteps();
+  showTime();
   showPlaces();
   showCandidates();
   showEffect();
@@ -284,8 +326,134 @@ function showPicture() {
   showPoints();
   showBreaks();
   showProcessors();
-  showCursor();
   showChangedPlace();
+  if (compared.position !== null && !by("compare").hidden) showCompared();
+}
+
+// ---- the tabs of the inspector
+
+function showTab(name) {
+  for (const it of document.querySelectorAll("#tabs button")) {
+    const isOn = it.dataset.tab === name;
+    it.setAttribute("aria-selected", isOn);
+    it.tabIndex = isOn ? 0 : -1;
+    by(it.dataset.tab).hidden = !isOn;
+  }
+  if (name === "compare") showCompared();
+}
+
+function buildTabs() {
+  const all = [...document.querySelectorAll("#tabs button")];
+  for (const it of all) it.addEventListener("click", () => showTab(it.dataset.tab));
+  by("tabs").addEventListener("keydown", (event) => {
+    const by1 = { ArrowLeft: -1, ArrowRight: 1 }[event.key];
+    if (!by1) return;
+    event.preventDefault();
+    event.stopPropagation();
+    const next = all[(all.indexOf(event.target) + by1 + all.length) % all.length];
+    showTab(next.dataset.tab);
+    next.focus();
+  });
+  showTab("now");
+}
+
+// ---- two positions compared
+
+const compared = { position: null };
+
+function compareWith(position) {
+  compared.position = position;
+  showTab("compare");
+}
+
+// What differs between two states: its name, and what the one and the other have there.
+function differences(one, other) {
+  const rows = [], add = (name, a, b) => { if (a !== b) rows.push([name, a, b]); };
+  const none = (at) => ({ ...emptyRow(at) });
+  const points = [one, other].map((it) => new Map(it.points.map((row) => [row.at, row])));
+  for (const at of new Set([...points[0].keys(), ...points[1].keys()])) {
+    const [a, b] = points.map((it) => it.get(at) || none(at));
+    add(`truth at ${at}`, a.truth, b.truth);
+    for (const kind of ["view", "unsent"]) a[kind].forEach((text, p) => add(`${kind} of processor ${p} at ${at}`, text || "0", b[kind][p] || "0"));
+  }
+  one.processors.forEach((it, p) => {
+    for (const kind of Object.keys(it)) add(`processor ${p}, ${kind}`, it[kind].join("; "), other.processors[p][kind].join("; "));
+  });
+  const queue = (state, key) => (state.queues.find((it) => `${it.from} to ${it.to}` === key) || { changes: [] }).changes.join("; ");
+  const keys = new Set([...one.queues, ...other.queues].map((it) => `${it.from} to ${it.to}`));
+  for (const key of keys) add(`on the way from ${key}`, queue(one, key), queue(other, key));
+  return rows;
+}
+
+async function showCompared() {
+  const field_ = made("input"), form = made("form", undefined, "form");
+  field_.size = 6;
+  field_.value = compared.position === null ? "" : compared.position;
+  form.append(field("compare this position with", field_), made("button", "compare"), made("span", "or click a step with shift", "soft"));
+  form.addEventListener("submit", (event) => {
+    event.preventDefault();
+    const given = numbersOf(field_.value, 0n, BigInt(picture.kept));
+    if (given.fault || given.numbers.length !== 1) return say(`compare: ${given.fault || "one position is wanted"}`, true);
+    return compareWith(Number(given.numbers[0]));
+  });
+  const parts = [made("h2", "Two positions compared"), form];
+  if (compared.position !== null && picture) {
+    const positions = [picture.at, compared.position], states = await source.states(positions);
+    if (states.length === 2 && states.every(Boolean)) parts.push(differenceTable(positions, differences(...states)));
+    else parts.push(made("p", "there is no state at one of the positions", "none"));
+  }
+  redrawn(by("compare"), ...parts);
+}
+
+function differenceTable(positions, rows) {
+  if (!rows.length) return made("p", `nothing differs between the positions ${positions.join(" and ")}`, "none");
+  const table = made("table"), head = made("tr"), wide = made("div", undefined, "wide");
+  head.append(columnHead("what differs", "what differs"), ...positions.map((at) => columnHead(`at ${at}`, `at position ${at}`)));
+  table.append(head, ...rows.map(([name, a, b]) => {
+    const row = made("tr"), first = made("th", name);
+    first.scope = "row";
+    row.append(first, ...[a, b].map((text) => made("td", text || "nothing", "long")));
+    return row;
+  }));
+  wide.append(table);
+  return wide;
+}
+
+// ---- steps found by what they are
+
+const KINDS = ["feed", "take", "notice", "send", "release", "broadcast", "receive"];
+const findControls = {
+  kind: select("the kind of step", ["any step", ...KINDS.map((it) => (it === "notice" ? "notification" : it))], 0, () => {}),
+  p: select("its processor", ["any processor", ...processors()], 0, () => {}),
+  at: select("its location", ["anywhere", ...about.places.map((it) => it.name)], 0, () => {}),
+  time: made("input"),
+};
+
+async function findSteps() {
+  const { kind, p, at, time } = findControls, typed = time.value.trim() ? timeOf(time.value) : {};
+  if (typed.fault) return say(`find: ${typed.fault}`, true);
+  const told = await source.find({
+    kind: kind.selectedIndex ? KINDS[kind.selectedIndex - 1] : null, p: p.selectedIndex ? p.selectedIndex - 1 : null,
+    at: at.selectedIndex ? about.places[at.selectedIndex - 1].name : null, time: typed.time || null,
+  });
+  if (!told || told.stopped) return undefined;
+  const list = made("ul", undefined, "list");
+  list.append(...told.items.map((it) => {
+    const row = made("li");
+    row.append(button(`${it.position}. ${it.words}`, () => source.goToStep(it.position), `kind-${it.kind}`));
+    return row;
+  }));
+  const more = told.count > told.items.length ? `, the first ${told.items.length} of them:` : "";
+  return by("found").replaceChildren(made("p", told.count ? `${told.count} ${told.count === 1 ? "step" : "steps"}${more}` : "no such step", "soft"), list);
+}
+
+function buildFind() {
+  const { kind, p, at, time } = findControls;
+  time.size = 6;
+  by("find").append(kind, p, at, field("at time", time), made("button", "find steps"));
+  by("find").addEventListener("submit", (event) => { event.preventDefault(); findSteps(); });
 }
 
 buildWhy();
+buildFind();
+buildTabs();

@@ -5,13 +5,107 @@ const opened = new Map();
 // The position that is shown, and the one that was asked for last: keys may follow one another quickly.
 let position = 0, wanted = 0, told = {}, shown = Promise.resolve();
 
+async function unpacked(text) {
+  const bytes = Uint8Array.from(atob(text), (it) => it.charCodeAt(0));
+  return new Response(new Blob([bytes]).stream().pipeThrough(new DecompressionStream("deflate"))).json();
+}
+
 async function pieceOf(number) {
-  if (!opened.has(number)) {
-    const bytes = Uint8Array.from(atob(run.pieces[number]), (it) => it.charCodeAt(0));
-    const stream = new Blob([bytes]).stream().pipeThrough(new DecompressionStream("deflate"));
-    opened.set(number, new Response(stream).json());
-  }
+  if (!opened.has(number)) opened.set(number, unpacked(run.pieces[number]));
   return opened.get(number);
+}
+
+// ---- what is known of all kept steps. An entry [cuts, position, value] counts until a cut before its position.
+
+let log = null;
+
+function entriesOf(kind, key) {
+  const to = (cuts) => Math.min(Infinity, ...log.cuts.slice(cuts, picture.cuts));
+  const all = (log[kind][key] || []).filter(([cuts, position]) => cuts <= picture.cuts && position <= to(cuts));
+  return all.map(([, position, value]) => [position, value]).sort(([one], [other]) => one - other);
+}
+
+// The steps up to the last kept one: at each position its step, or nothing if the page leaves it out.
+function allSteps() {
+  const steps = [];
+  for (const [position, it] of entriesOf("steps", "")) if (position <= picture.kept) steps[position] = { position, ...it };
+  return steps;
+}
+
+// The updates from each broadcast to its receives: as live/sight.py has them.
+function messagesAmong(steps, first, last) {
+  const waiting = new Map(), found = [];
+  const queue = (p, q) => waiting.get(`${p} ${q}`) || waiting.set(`${p} ${q}`, []).get(`${p} ${q}`);
+  for (const it of steps) {
+    if (it && it.kind === "broadcast") for (let q = 0; q < about.processors; q += 1) queue(it.p, q).push(it.position);
+    if (it && it.kind === "receive") found.push([it.from, it.p, queue(it.from, it.p).shift(), it.position]);
+  }
+  for (const [key, left] of waiting) for (const at of left) found.push([...key.split(" ").map(Number), at, null]);
+  const isIn = (at) => at !== null && at >= first && at <= last;
+  return found.filter(([p, q, begin, end]) => p !== q && (isIn(begin) || isIn(end)))
+    .map(([p, q, begin, end]) => [p, q, isIn(begin) ? begin : null, isIn(end) ? end : null]);
+}
+
+function stepsInSight() {
+  const [first, last] = windowOf(picture.at, picture.kept, view), steps = allSteps();
+  const items = last - first < MOST_LISTED ? steps.slice(first, last + 1).filter(Boolean) : [];
+  return { first, last, items, messages: items.length ? messagesAmong(steps, first, last) : [] };
+}
+
+function densityAmong(steps, first, last) {
+  const count = Math.max(1, last - first + 1), bins = Math.min(BINS, count);
+  const rows = Array.from({ length: about.processors }, () => new Array(bins).fill(0));
+  for (const it of steps.slice(first, last + 1)) if (it) rows[it.p][Math.min(bins - 1, Math.floor(((it.position - first) * bins) / count))] += 1;
+  return rows;
+}
+
+function isAtOrBefore(one, other) {
+  return one[0] <= other[0] && compareTimes(one.slice(1), other.slice(1)) <= 0;
+}
+
+// Which points have to be passed, so that the point that is asked about is: each a place, and whether a time is in its way.
+function inTheWay({ at, time, before: strictly }) {
+  const isThere = (it) => isAtOrBefore(it, time);
+  if (!strictly) return [[at, isThere]];
+  const edges = about.places.filter((it) => it.to === at).map((it) => [it.name, isThere]);
+  return [...edges, [at, (it) => isThere(it) && compareTimes(it, time) !== 0]];
+}
+
+// Where a value turns among the positions, as the live page is told.
+function laneOf(values) {
+  const turns = values.slice(1).filter(([, holds], at) => holds !== values[at][1]).map(([at]) => at);
+  return values.length ? { at_lo: values[0][1], turns, to: picture.kept } : { at_lo: null, turns: [], to: 0 };
+}
+
+// A view has passed a point exactly if no time that can still arrive there is at or before it.
+function knowing(q, why) {
+  const places = inTheWay(why).map(([place, isThere]) => [entriesOf("times", `${q} ${place}`), isThere]);
+  const ats = [...new Set(places.flatMap(([entries]) => entries.map(([at]) => at)))].sort((a, b) => a - b);
+  const at = (entries, position) => (entries.filter(([it]) => it <= position).pop() || [0, []])[1];
+  return laneOf(ats.map((position) => [position, !places.some(([entries, isThere]) => at(entries, position).some(isThere))]));
+}
+
+// What is finished stays finished; of what no answer is recorded is not known.
+function finishedLane({ at, time, before: strictly }) {
+  const entries = entriesOf("finished", `${at} ${timeText(time)}${strictly ? " before" : ""}`);
+  const since = entries.find(([, it]) => it);
+  if (!entries.length) return { at_lo: null, turns: [], to: 0 };
+  return since && since[0] > 0 ? { at_lo: false, turns: [since[0]], to: picture.kept } : { at_lo: entries[0][1], turns: [], to: picture.kept };
+}
+
+function overAll() {
+  const { why, window: [first, last], origin } = overQuestion(), steps = allSteps(), numbers = [...processors().keys()];
+  const times = why ? numbers.map((q) => entriesOf("times", `${q} ${why.at}`)) : [];
+  const ats = [...new Set(times.flatMap((it) => it.map(([at]) => at)).concat(picture.kept))].sort((a, b) => a - b);
+  const at = (entries, position) => (entries.filter(([it]) => it <= position).pop() || [0, []])[1];
+  return {
+    about: JSON.stringify(why), said: "", density: densityAmong(steps, 1, picture.kept),
+    near: last - first >= MOST_LISTED ? densityAmong(steps, first, last) : null,
+    lanes: why ? [...numbers.map((q) => knowing(q, why)), finishedLane(why)] : [],
+    carried: Object.fromEntries(entriesOf("carried", "")),
+    origin: origin ? entriesOf("views", `${origin.q} ${origin.at} ${timeText(origin.time)}`) : null,
+    times: ats.map((position) => [position, times.map((it) => at(it, position))]),
+  };
 }
 
 // The members of a position: packing.py has the other direction.
@@ -51,16 +145,22 @@ function withoutAnswer(asked) {
   return `${which[told.which]}; tools/live answers everywhere`;
 }
 
-function whyAnswer(asked) {
-  const all = told.why || {}, start = `${asked.q} ${asked.at} (`;
-  const key = asked.time ? `${asked.q} ${asked.at} ${timeText(asked.time)}` : Object.keys(all).find((it) => it.startsWith(start));
-  if (asked.before) return { error: "the page has no answers about what is strictly before a time; tools/live has" };
-  return all[key] || { error: withoutAnswer(asked) };
+function whyAnswer(question_) {
+  let asked = question_;
+  const all = told.why || {}, start = `${asked.q} ${asked.at} (`, end = asked.before ? " before" : "";
+  if (!asked.time) asked = { ...asked, time: arrivingAt(asked.q, asked.at) };
+  const key = asked.time ? `${asked.q} ${asked.at} ${timeText(asked.time)}${end}` : Object.keys(all).find((it) => it.startsWith(start));
+  return { time: asked.time, ...(all[key] || { error: withoutAnswer(asked) }) };
+}
+
+// The earliest time that can still arrive, or the first that could.
+function arrivingAt(q, place) {
+  const entries = entriesOf("times", `${q} ${place}`), now = entries.filter(([at]) => at <= picture.at).pop();
+  const [time] = (now && now[1].length ? now[1] : (entries.find(([, times]) => times.length) || [0, []])[1]);
+  return time || null;
 }
 
 function showNothing() {
-  by("range").textContent = "";
-  by("spacetime").replaceChildren(made("p", "there is no state at this line", "none"));
   showPlaces([]);
   showHolding(Number.isInteger(told.mark) ? [{ place: told.mark }] : []);
 }
@@ -77,10 +177,13 @@ async function show(at) {
   by("redo").disabled = by("last").disabled = position === run.ats.length - 1;
   document.querySelector("main").classList.toggle("empty", !picture);
   if (picture) {
+    picture.steps = stepsInSight();
     picture.why = chosen.place === null ? null : whyAnswer(question());
+    over = overAll();
     showPicture();
   } else showNothing();
   document.body.dataset.position = position;
+  noteAddress(position);
 }
 
 function ask(at) {
@@ -89,9 +192,6 @@ function ask(at) {
   return shown;
 }
 
-function move(at) {
-  return ask(at).then(() => history.replaceState(null, "", `#${position}`));
-}
 
 // The last position of the line before, and of this line or, from there, of the next one.
 function lineBack() {
@@ -104,38 +204,55 @@ function lineOn() {
   return run.ends[Math.min(wanted + 1, run.ats.length - 1)];
 }
 
-// The position of the page nearest to this one with the cursor at a step.
-function goToStep(step) {
+// The position of the page nearest to this one with the cursor at a step, -1 if there is none.
+function nearest(step) {
   const there = run.ats.flatMap((at, index) => (at === step ? [index] : []));
   there.sort((one, other) => Math.abs(one - position) - Math.abs(other - position));
-  if (there.length) move(there[0]);
+  return there.length ? there[0] : -1;
+}
+
+function goToStep(step) {
+  if (nearest(step) >= 0) ask(nearest(step));
 }
 
 const source = {
   isLive: false,
   goToStep,
+  look() { Object.assign(picture, { steps: stepsInSight() }); over = overAll(); showTime(); },
+  asked() { over = overAll(); showTime(); noteAddress(position); },
+  goToAddress: (at) => show(Math.max(0, Math.min(run.ats.length - 1, at === null ? position : at))),
+  async states(positions) {
+    const all = await Promise.all(positions.map((it) => positionOf(nearest(it))));
+    return all.map((it) => it.picture && it.picture.state);
+  },
+  async find({ kind, p, at, time }) {
+    const text = time && timeText(time), all = allSteps().filter(Boolean).filter((it) => (kind === null || it.kind === kind)
+      && (p === null || it.p === p) && (at === null || it.at === at) && (time === null || it.time === text));
+    return { items: all.slice(0, 200), count: all.length };
+  },
   async why(asked) { return picture ? whyAnswer(asked) : null; },
   actions: {
-    back: () => move(wanted - 1),
-    redo: () => move(wanted + 1),
-    first: () => move(0),
-    last: () => move(run.ats.length - 1),
-    lineBack: () => move(lineBack()),
-    lineOn: () => move(lineOn()),
+    back: () => ask(wanted - 1),
+    redo: () => ask(wanted + 1),
+    first: () => ask(0),
+    last: () => ask(run.ats.length - 1),
+    lineBack: () => ask(lineBack()),
+    lineOn: () => ask(lineOn()),
+    ...ZOOMS,
   },
-  keys: { ArrowLeft: "back", ArrowRight: "redo", Home: "first", End: "last", PageUp: "lineBack", PageDown: "lineOn" },
+  keys: { ...ZOOM_KEYS, ArrowLeft: "back", ArrowRight: "redo", Home: "first", End: "last", PageUp: "lineBack", PageDown: "lineOn" },
 };
-
-function opening() {
-  const at = Number.parseInt(location.hash.slice(1), 10);
-  return Number.isNaN(at) ? about.opens : at;
-}
 
 by("goto").addEventListener("submit", (event) => {
   event.preventDefault();
   const at = Number(by("position").value);
-  if (Number.isInteger(at) && at >= 1 && at <= run.ats.length) move(at - 1);
+  if (Number.isInteger(at) && at >= 1 && at <= run.ats.length) ask(at - 1);
 });
-by("slider").addEventListener("input", () => move(Number(by("slider").value)));
-window.addEventListener("hashchange", () => ask(opening()));
-ask(opening());
+by("slider").addEventListener("input", () => ask(Number(by("slider").value)));
+const opened_ = addressOf(location.hash);
+unpacked(run.over).then((it) => {
+  log = it;
+  wanted = opened_.at === null ? about.opens : opened_.at;
+  if (opened_.why) Object.assign(chosen, opened_.why);
+  return ask(wanted);
+}).then(() => (opened_.why ? undefined : askFirst()));

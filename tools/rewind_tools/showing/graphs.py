@@ -13,7 +13,7 @@ from rewind_tools.wrapping import wrapped
 LETTER = 7.3
 COUNT_LETTERS = 12
 # How wide rows may be, and how much wider a graph may be that stands in one row.
-WIDEST, SLACK = 1400, 1.2
+WIDEST, SLACK = 900, 1.2
 RIM = 20  # the room around the graph
 # What makes an element one with a name of its own, and one that is pressed.
 NAMED, PRESSED = 'role="group" aria-label="the graph"', 'role="button" tabindex="0"'
@@ -113,8 +113,8 @@ def path_text(points):
 
 
 def graph_svg(graph, drawn):
-    """The graph's picture, and its width. Each place has its number in the order of listing, by which the
-    counts are filled in. A graph that is too wide stands in rows."""
+    """The graph's picture. Each place has its number in the order of listing, by which the counts are filled
+    in. A graph that is too wide stands in rows."""
     boxes, labels = sizes_of(graph)
     drawn = wrapped(drawn, boxes, labels, WIDEST if drawn.width > SLACK * WIDEST else drawn.width)
     parts = [loop_svg(graph, drawn, (boxes, labels), *it) for it in loops_of(graph)]
@@ -141,7 +141,7 @@ def graph_svg(graph, drawn):
     head += 'markerHeight="10" orient="auto"><path d="M0,0 L8,4 L0,8 z"/></marker></defs>'
     size = f'viewBox="{-RIM} {-RIM} {wide:g} {high:g}" width="{wide:g}" data-width="{wide:g}"'
     start = f'<svg xmlns="http://www.w3.org/2000/svg" class="graph" {NAMED} {size}>'
-    return f"{start}{head}{''.join(parts)}</svg>", wide
+    return f"{start}{head}{''.join(parts)}</svg>"
 
 
 def edge_svg(edge, curves, number):

@@ -21,6 +21,12 @@ def flat(value, path=""):
     return members
 
 
+def compressed(value):
+    """A value as text in few bytes."""
+    text = json.dumps(value, separators=(",", ":"), ensure_ascii=False)
+    return base64.b64encode(zlib.compress(text.encode(), 9)).decode()
+
+
 class Packer:
     """Packs positions, one after the other."""
 
@@ -40,8 +46,7 @@ class Packer:
         self.count += 1
 
     def end_piece(self):
-        text = json.dumps(self.members, separators=(",", ":"), ensure_ascii=False)
-        self.pieces.append(base64.b64encode(zlib.compress(text.encode(), 9)).decode())
+        self.pieces.append(compressed(self.members))
         self.members, self.last = {}, {}
 
     def packed(self):

@@ -12,7 +12,8 @@ from rewind_tools.page import SCRIPTS, filled, graph_of, part, places_of
 from rewind_tools.runs import run_script, without_clients
 from rewind_tools.script import COMMANDS, STEPS
 from rewind_tools.session import Ended, Session
-from rewind_tools.showing.packing import Packer
+from rewind_tools.showing.over_time import Log
+from rewind_tools.showing.packing import Packer, compressed
 from rewind_tools.showing.states import order_of
 from rewind_tools.telling import faults
 from rewind_tools.telling.commands import command_words, counted, processor_of, time_in
@@ -34,6 +35,11 @@ def dumped(value):
     return json.dumps(value, separators=(",", ":"), sort_keys=True, ensure_ascii=False)
 
 
+def why_key(q, place, time, before):
+    """The key of the answer about a point."""
+    return f"{q} {place} {time_in(time)}{' before' if before else ''}"
+
+
 def cut(text):
     return text if len(text) <= LONGEST else f"{text[:LONGEST]} .. ({counted(len(text), 'letter')} in all)"
 
@@ -53,7 +59,7 @@ class Copy:
         self.session = Session(told.graph, without_clients(words))
         self.places = {}
         self.pictures, self.named = Pictures(self.session, teller, self.with_place), named_points(told)
-        self.left = {"all": MOST, "fewer": MOST_OF_FEWER}
+        self.left, self.log = {"all": MOST, "fewer": MOST_OF_FEWER}, Log(self.pictures, told.graph)
         self.revision, self.is_there = 0, "locations" in self.session.started
         self.at = self.kept = 0
         self.whys_told = (None, None)
@@ -61,8 +67,10 @@ class Copy:
     def execute(self, value):
         """Executes a command; its reply."""
         reply = self.session.ask(value)
-        if value["do"] in (*STEPS, "run"):
+        if value["do"] in (*STEPS, "run") and reply.get("at", self.at) > self.at:
             self.pictures.forget_from(self.at)
+            if self.at < self.kept:
+                self.log.cut(self.at)
         self.revision += 1
         self.at, self.kept = reply.get("at", self.at), reply.get("kept", self.kept)
         return reply
@@ -101,9 +109,11 @@ class Copy:
     def picture(self, kept, stopped):
         """The picture at the cursor, of so many kept steps; `stopped` is the id of the breakpoint at which a
         run stopped."""
-        sight = {"rows": ROWS, "effect": self.revision <= MOST_EFFECTS}
+        sight = {"rows": ROWS, "effect": self.revision <= MOST_EFFECTS, "steps": False}
         told = self.pictures.of(self.at, kept, self.revision, sight)
-        told["marked"] = []
+        state, _, effect = self.pictures.at_cursor(self.at, self.revision)
+        self.log.note(self.at, state, effect, self.with_place)
+        told["marked"], told["cuts"] = [], len(self.log.cuts)
         told["breaks"] = [{**it, "holds": it["id"] == stopped} for it in told["breaks"]]
         return told
 
@@ -115,6 +125,7 @@ class Copy:
         """Which points the page has answers about here, and the answers by processor and point."""
         if self.whys_told[0] != self.revision:
             self.whys_told = self.revision, self.ask_whys()
+            self.log.note_whys(self.at, self.whys_told[1][1])
         return self.whys_told[1]
 
     def ask_whys(self):
@@ -123,19 +134,24 @@ class Copy:
         waiting = [(place, tuple(time)) for it in state["processors"] for place, time in it["requests"]]
         for asked, wanted in (("all", points.all()), ("fewer", waiting)):
             wanted = sorted({*wanted, *self.named}, key=points.place)
-            queries = (len(wanted) + len({place for place, _ in wanted})) * count
+            places = {place for place, _ in wanted}
+            queries = (len(wanted) + len({*waiting}) + len(places)) * count
             if queries <= self.left[asked]:
                 self.left[asked] -= queries
-                return asked, self.asked([(q, *it) for q in range(count) for it in wanted])
+                points = [(q, *it, False) for q in range(count) for it in wanted]
+                before = [(q, *it, True) for q in range(count) for it in dict.fromkeys(waiting)]
+                return asked, self.asked(points + before)
         return "none", {}
 
     def asked(self, wanted):
-        """The answers about points by processor."""
-        places = list(dict.fromkeys((q, place) for q, place, _ in wanted))
+        """The answers about points by processor, and about what is strictly before them."""
+        places = list(dict.fromkeys(it[:2] for it in wanted))
         arriving = dict(zip(places, self.pictures.frontiers(self.state, places)))
-        questions = [{"q": q, "at": it, "time": list(time), "before": False} for q, it, time in wanted]
+        questions = [
+            {"q": q, "at": it, "time": [*time], "before": strictly} for q, it, time, strictly in wanted
+        ]
         answers = self.pictures.whys(questions, [arriving[it[:2]] for it in wanted]) if wanted else []
-        return {f"{q} {place} {time_in(time)}": it for (q, place, time), it in zip(wanted, answers)}
+        return {why_key(*it): answer for it, answer in zip(wanted, answers)}
 
 
 class Recorder:
@@ -198,7 +214,7 @@ class Recorder:
         stopped = stop["break"] if isinstance(stop, dict) else None
 
         def picture():
-            return self.copy.picture(self.copy.kept if position is None else position, stopped)
+            return self.copy.picture(self.copy.kept, stopped)
 
         told = self.of_copy(picture)
         which, whys = (self.of_copy(self.copy.whys) if told else None) or ("none", {})
@@ -229,7 +245,8 @@ def recorded(told, script, words, report, marks, places):
     finally:
         if recorder.copy:
             recorder.copy.session.close()
-    return {"ends": recorder.ends, "ats": recorder.ats, **recorder.packer.packed()}
+    over = recorder.copy.log.packed() if recorder.copy else {}
+    return {"ends": recorder.ends, "ats": recorder.ats, "over": compressed(over), **recorder.packer.packed()}
 
 
 def embedded(value):
@@ -251,7 +268,17 @@ def last_kept(told):
 
 
 # tools/follow makes the page of a trace by this: `script` is the merged run, `marks` what was refused.
-def page_of(name, script, words, uses_dot=True, report=lambda text: None, marks=(), places=None, verdict=""):
+def page_of(
+    name,
+    script,
+    words,
+    uses_dot=True,
+    report=lambda text: None,
+    marks=(),
+    places=None,
+    verdict="",
+    is_at_end=False,
+):
     """The page of a script's run, and the run. `marks` has what was refused, which is shown in red: the
     number of the step before it, or "end", the worker and a text. `places` has by the number of a line of
     the script where that comes from, as bytes (rewind_tools/sources.py). The verdict is what was said of a
@@ -261,11 +288,11 @@ def page_of(name, script, words, uses_dot=True, report=lambda text: None, marks=
     has_form = start or any("location" in it.reply for it in told.entries[:1])
     graph = told.graph if has_form else {"vertices": [], "edges": []}
     count = start.get("processors", 0)
-    none = {"graph": "<p>The program has read no graph.</p>", "size": "", "loops": ""}
-    drawn = graph_of(graph, count, uses_dot) if has_form else none
+    none = {"graph": "<p>The program has read no graph.</p>", "loops": ""}
+    drawn = graph_of(graph, uses_dot) if has_form else none
     about = {"processors": count, "places": places_of(graph), "name": name}
     run = recorded(told, script, words, report, marks, places or {})
-    about["opens"] = len(run["ats"]) - 1 if verdict else 0
+    about["opens"] = len(run["ats"]) - 1 if verdict or is_at_end else 0
     values = {
         "title": escape(f"{name}, {counted(count, 'processor')}" if start else name),
         "command": escape(" ".join(["rewind", *words, "<", name])), "verdict": verdict_of(verdict, marks),

@@ -1,0 +1,217 @@
+"""What a page shows of all kept steps: which processor executes each, from where on each knows that a point
+is finished, what the steps in sight carry to other processors, and which times can arrive.
+
+What is not known is asked for in jobs of lines, of a program that is at the last kept step:
+
+    job = over.next_job(asked, kept)     lines for the program, and what to do with their replies; None if
+                                         all that is asked for is known
+    over.told(asked, kept)               what is known
+
+`asked` has the question why a point is not finished, a condition, the first and the last step in sight, and
+into how many bins the steps are counted; each may lack."""
+import json
+import re
+from typing import NamedTuple
+
+from rewind_tools.finishing import condition
+from rewind_tools.live.sight import item, key_of, plain
+from rewind_tools.showing.states import changes
+from rewind_tools.telling.commands import FIRM
+from rewind_tools.telling.commands import condition as condition_words
+
+# How many steps one job reads, over how many positions it looks for turns: of conditions on views, and of
+# others, which take longer; and at how many positions it asks for effects or for frontiers.
+READ, PIECE, SLOW_PIECE, SOME = 5000, 20_000, 2000, 16
+# Of how many steps in sight is asked what they carry, how many positions have a frontier, how many turns are
+# listed, how many steps are found, and how many bins there are.
+MOST_CARRYING, MOST_SAMPLES, LISTED, MOST_FOUND, MOST_BINS = 130, 300, 20, 200, 1000
+# The processor of a step in the program's reply: of a receive, which has no "p", it is "to".
+OWNER, RECEIVER = re.compile(rb'"p":(\d+)'), re.compile(rb'"to":(\d+)')
+
+
+class Job(NamedTuple):
+    """Lines for the program, and what is to be called with their replies."""
+
+    lines: list
+    add: object
+    is_raw: bool = False  # whether replies are wanted as bytes
+
+    def ask(self, ask_lines):
+        """The replies."""
+        replies = ask_lines([json.dumps(it).encode() for it in self.lines])
+        return replies if self.is_raw else list(map(json.loads, replies))
+
+
+def truth(when):
+    """The condition that what a processor is to have passed is finished."""
+    if "all" in when:
+        return {"all": [truth(it) for it in when["all"]]}
+    return {"finished": {key: it for key, it in when["passed"].items() if key != "q"}}
+
+
+def carried(reply):
+    """What a step carries to other processors, by its effect: the updates of a broadcast, and the records
+    that come to another processor, as the processor, the record and how many come."""
+    step, changed = reply["step"], reply["changed"]
+    sent = [[place, time, old - new] for _, place, time, old, new in changed["unsent"]]
+    there = {
+        "updates": [plain(it) for it in changes(sent)] if step["do"] == "broadcast" else [],
+        "records": [
+            [q, key_of(place, time, value), new - old]
+            for q, place, time, value, old, new in changed["records"]
+            if new > old and q != step.get("p")
+        ],
+    }
+    return {key: it for key, it in there.items() if it}
+
+
+class OverTime:
+    """What is known of all kept steps. `turned` has the turns of conditions (turned.py)."""
+
+    def __init__(self, graph, turned, processors):
+        self.graph, self.turned, self.processors = graph, turned, processors
+        self.replies, self.owners = [], bytearray()  # by the steps, from the first on
+        self.carried, self.times, self.origins = {}, {}, {}
+
+    def forget_from(self, position):
+        """Forgets what leads to positions past this one, since other steps may be kept there."""
+        del self.replies[position:], self.owners[position:]
+        self.origins = {}
+        self.carried = {it: one for it, one in self.carried.items() if it <= position}
+        for place, found in self.times.items():
+            self.times[place] = {it: one for it, one in found.items() if it <= position}
+
+    # ---- what is asked for
+
+    def next_job(self, asked, kept):
+        jobs = (self.reading, self.carrying, self.knowing, self.coming_from, self.arriving, self.turning)
+        return next((job for it in jobs if (job := it(asked, kept))), None)
+
+    def reading(self, asked, kept):
+        """Reads steps."""
+        begin = len(self.replies)
+        end = min(kept, begin + READ)
+        lines = [{"do": "step", "to": it} for it in range(begin + 1, end + 1)]
+
+        def add(replies):
+            if begin == len(self.replies):
+                self.replies += replies
+                self.owners += bytes(int((OWNER.search(it) or RECEIVER.search(it))[1]) for it in replies)
+
+        return Job(lines, add, True) if lines else None
+
+    def carrying(self, asked, kept):
+        """Asks what the steps in sight carry to other processors."""
+        first, last = asked.get("window") or (1, 0)
+        sight = range(first, min(last, kept) + 1) if last - first < MOST_CARRYING else []
+        missing = [it for it in sight if it not in self.carried][:SOME]
+        lines = [line for it in missing for line in ({"do": "jump", "to": it}, {"do": "effect", "to": it})]
+
+        def add(replies):
+            self.carried.update({it: carried(reply) for it, reply in zip(missing, replies[1::2])})
+
+        return Job(lines, add) if lines else None
+
+    def conditions(self, asked):
+        """The condition of each lane: that each processor knows of the end of a point, that it has come,
+        and one of the person's own."""
+        why, when = asked.get("why"), asked.get("when")
+        passed = [condition(self.graph, {**why, "q": q}) for q in range(self.processors)] if why else []
+        return [*passed, *map(truth, passed[:1]), *([when] if when else [])]
+
+    def knowing(self, asked, kept):
+        """Asks from where on the processors know of the point's end."""
+        known = self.conditions(asked)[: self.processors] if asked.get("why") else []
+        return self.turns_job(known, kept, PIECE)
+
+    def turning(self, asked, kept):
+        """Asks where the conditions of the other lanes turn."""
+        return self.turns_job(self.conditions(asked), kept, SLOW_PIECE)
+
+    def turns_job(self, conditions, kept, most):
+        """Asks about the condition of which least is known."""
+        lines = [self.turned.next_line(it, kept, most) for it in conditions]
+        line = min((it for it in lines if it), key=lambda it: it["lo"], default=None)
+        return Job([line], lambda replies: self.turned.add(line, replies[0])) if line else None
+
+    def coming_from(self, asked, kept):
+        """Asks at which step a processor's view has come to count what is in the way."""
+        where = asked.get("origin")
+        key = json.dumps([where, kept])
+        if not where or key in self.origins:
+            return None
+        line = {"do": "changes", **where, "lo": 0, "hi": kept}
+        return Job([line], lambda replies: self.origins.update({key: replies[0].get("changes", [])}))
+
+    def samples(self, kept):
+        """The positions at which is asked which times can arrive: all, or one of so many and the last."""
+        stride = 1
+        while kept // stride > MOST_SAMPLES:
+            stride *= 2
+        return [*range(0, kept, stride), kept]
+
+    def arriving(self, asked, kept):
+        """Asks which times can arrive at a location, as far as each processor knows."""
+        place = (asked.get("why") or {}).get("at")
+        found = self.times.setdefault(place, {}) if place else {}
+        missing = [it for it in self.samples(kept) if it not in found][:SOME] if place else []
+        frontiers = [{"do": "frontier", "q": q, "at": place} for q in range(self.processors)]
+        lines = [line for it in missing for line in ({"do": "jump", "to": it}, *frontiers)]
+
+        def add(replies):
+            for number, it in enumerate(missing):
+                begin = number * (self.processors + 1) + 1
+                found[it] = [one.get("times", []) for one in replies[begin : begin + self.processors]]
+
+        return Job(lines, add) if lines else None
+
+    # ---- what is known
+
+    def told(self, asked, kept):
+        why, (first, last) = asked.get("why"), asked.get("window") or (1, kept)
+        key, bins = json.dumps([asked.get("origin"), kept]), min(int(asked.get("bins", 1)), MOST_BINS)
+        found = self.times.get(why["at"], {}) if why else {}
+        return {
+            "kept": kept,
+            "read": len(self.replies),
+            "density": self.density(1, kept, bins),
+            "near": self.density(first, last, bins) if last - first >= MOST_CARRYING else None,
+            "lanes": [self.lane(it) for it in self.conditions(asked)],
+            "carried": {it: self.carried[it] for it in range(first, last + 1) if self.carried.get(it)},
+            "origin": self.origins.get(key),
+            "times": [[it, found[it]] for it in self.samples(kept) if it in found],
+        }
+
+    def lane(self, when):
+        it = self.turned.about(when)
+        words = condition_words(when).replace(FIRM, " ")
+        return {"when": words, **{key: it.get(key) for key in ("at_lo", "turns", "to", "error")}}
+
+    def density(self, first, last, bins):
+        """How many steps each processor executes, in bins of equal width."""
+        count = max(1, last - first + 1)
+        ends = [first - 1 + count * it // bins for it in range(bins + 1)]
+        pieces = [self.owners[one:other] for one, other in zip(ends, ends[1:])]
+        return [[it.count(q) for it in pieces] for q in range(self.processors)]
+
+    def find(self, asked):
+        """The first steps of a kind, of a processor, at a location, at a time; each may lack."""
+        found, count = [], 0
+        for position, text in enumerate(self.replies, 1):
+            if asked.get("p") is not None and self.owners[position - 1] != asked["p"]:
+                continue
+            step = json.loads(text)["step"]
+            if is_found(step, asked):
+                count += 1
+                found += [item(position, step)] if count <= MOST_FOUND else []
+        return {"items": found, "count": count}
+
+
+def is_found(step, asked):
+    """Whether a step is of the kind, at the location and at the time that are asked for."""
+    place, time = asked.get("at"), asked.get("time")
+    return (
+        asked.get("kind") in (None, step["do"])
+        and place in (None, step.get("vertex"), step.get("edge"))
+        and time in (None, step.get("time"), step.get("at"))
+    )

@@ -1,0 +1,46 @@
+"use strict";
+// The address of what is shown: run.html#at=11&why=0,out,0 is position 11 with the question about out (0) of processor 0;
+// "&before" asks about all strictly before it. The browser's back goes to the address before.
+const QUICK = 600;
+let isFollowing = false, pushedAt = 0;
+
+function addressNow(at) {
+  const why = question();
+  if (!why) return `#at=${at}`;
+  const parts = [why.q, encodeURIComponent(why.at), ...(why.time || [])];
+  return `#at=${at}&why=${parts.join(",")}${why.before ? "&before" : ""}`;
+}
+
+// What an address names: a position, null if none, and a question.
+function addressOf(hash) {
+  const values = new URLSearchParams(hash.slice(1)), at = Number.parseInt(values.get("at"), 10);
+  const [q, place, ...time] = (values.get("why") || "").split(",");
+  const number = place === undefined ? -1 : placeNumber(place), isTime = time.every((it) => /^\d+$/.test(it));
+  const why = number >= 0 && Number(q) < about.processors && isTime
+    ? { q: Number(q), place: number, time: time.length ? time.map(Number) : null, before: values.has("before") } : null;
+  return { at: Number.isNaN(at) ? null : at, why };
+}
+
+// Notes where the page is. Of positions that follow one another quickly only the last stays in the browser's history.
+function noteAddress(at) {
+  const hash = addressNow(at);
+  if (isFollowing || hash === location.hash) return;
+  const isQuick = performance.now() - pushedAt < QUICK || !location.hash;
+  pushedAt = performance.now();
+  if (isQuick) history.replaceState(null, "", hash);
+  else history.pushState(null, "", hash);
+}
+
+// Goes where the address leads.
+async function followAddress(hash) {
+  const { at, why } = addressOf(hash);
+  isFollowing = true;
+  try {
+    Object.assign(chosen, why || { place: null, time: null, before: false });
+    await source.goToAddress(at);
+  } finally {
+    isFollowing = false;
+  }
+}
+
+window.addEventListener("popstate", () => followAddress(location.hash));
