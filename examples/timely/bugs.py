@@ -2,7 +2,7 @@
 logic or of the worker; its first line is what --bug list prints."""
 import copy
 
-from programs import Sink, Source, Total
+from programs import Halve, Sink, Source, Total
 from worker import Capability, Worker
 
 
@@ -42,6 +42,15 @@ class ReturnsEarly(Worker):
         return not is_last and super().step()
 
 
+class LeakInLoop(Halve):
+    """halve, in the loop, keeps a capability of its second round at epoch 0"""
+
+    def halve(self, time, value):
+        if time == (0, 1) and is_faulty(self.worker) and not hasattr(self, "kept"):
+            self.kept = Capability(self.worker, self.output(), time)
+        super().halve(time, value)
+
+
 class DropsTwice(Total):
     """total drops a capability twice"""
 
@@ -74,31 +83,32 @@ class NeverReads(Sink):
 class HoldsProgress(Worker):
     """the worker works on, but sends no progress after its first batch"""
 
-    def send_progress(self):
-        if not (is_faulty(self) and self.sent):
-            super().send_progress()
+    def send_progress(self, scope):
+        if not (is_faulty(self) and self.sent[scope]):
+            super().send_progress(scope)
 
 
 class LosesBatch(Worker):
     """the worker loses the second batch of worker 0"""
 
-    def receive_progress(self, source, seq_no, batch):
+    def receive_progress(self, scope, source, seq_no, batch):
         if not (is_faulty(self) and (source, seq_no) == (0, 2)):
-            super().receive_progress(source, seq_no, batch)
+            super().receive_progress(scope, source, seq_no, batch)
 
 
 class CountsTwice(Worker):
     """the worker counts an entry of a batch twice when it receives it"""
 
-    def receive_progress(self, source, seq_no, batch):
+    def receive_progress(self, scope, source, seq_no, batch):
         if is_faulty(self) and (source, seq_no) == (0, 1):
             batch = copy.deepcopy(batch)
             batch["internal"][0][3] *= 2
-        super().receive_progress(source, seq_no, batch)
+        super().receive_progress(scope, source, seq_no, batch)
 
 
 BUGS = {
     "leak": Leak,
+    "leak-in-loop": LeakInLoop,
     "late-advance": LateAdvance,
     "returns-early": ReturnsEarly,
     "drops-twice": DropsTwice,

@@ -1,7 +1,7 @@
 """The operators, and three programs of them."""
 import math
 
-from dataflow import Dataflow, Location
+from dataflow import BORDER, Dataflow, Location
 from worker import Capability
 
 
@@ -112,6 +112,31 @@ class Split(Logic):
         capability.drop()
 
 
+class Halve(Logic):
+    """In a loop: halves a value, and sends it round again, or out when it is small."""
+
+    def schedule(self):
+        self.drop_first()
+        messages = [it for port in range(self.operator.inputs) for it in self.read(port)]
+        for time, value in messages:
+            self.halve(time, value)
+        return bool(messages)
+
+    def halve(self, time, value):
+        self.worker.send(self.output(0 if value > 9 else 1), time, value // 2)
+
+
+class Feedback(Logic):
+    """Sends what comes round the loop in the next round."""
+
+    def schedule(self):
+        self.drop_first()
+        messages = self.read()
+        for (epoch, number), value in messages:
+            self.worker.send(self.output(), (epoch, number + 1), value)
+        return bool(messages)
+
+
 class Sink(Logic):
     """Reads what arrives."""
 
@@ -148,12 +173,27 @@ def pairs():
     return made
 
 
-PROGRAMS = {"totals": totals, "split": split, "pairs": pairs}
+def rounds():
+    """numbers --> a loop of halve and feedback --exchange--> total --> out"""
+    made = Dataflow()
+    (numbers,) = made.add("numbers", Source)
+    loop, (done,) = made.add_scope("Loop: halve", [(numbers, False)])
+    entered, leaves = Location("out", (loop, BORDER), 0), Location("in", (loop, BORDER), 0)
+    again = Location("out", (loop, 2), 0)
+    more, small = made.add("halve", Halve, [(entered, True), (again, True)], outputs=2, scope=loop)
+    made.add("Feedback", Feedback, [(more, False)], scope=loop, rounds=1)
+    made.connect(small, leaves)
+    (total,) = made.add("total", Total, [(done, True)])
+    made.add("out", Sink, [(total, False)], outputs=0)
+    return made
+
+
+PROGRAMS = {"totals": totals, "split": split, "pairs": pairs, "rounds": rounds}
 
 
 def inputs_of(dataflow, words, random):
     """What each source of a worker sends: by epoch values that go to each worker in turn."""
-    sources = [it.name for it in dataflow.operators if issubclass(it.logic, Source)]
+    sources = [it.name for it in dataflow.operators if it.logic and issubclass(it.logic, Source)]
     return {name: [values_of(words, random) for _ in range(words.epochs)] for name in sources}
 
 

@@ -4,7 +4,7 @@ import json
 import threading
 import time as clock
 
-from dataflow import Location
+from dataflow import BORDER
 from progress import Changes, Tracker
 
 
@@ -52,18 +52,24 @@ class Log:
     def __init__(self, path):
         self.file = open(path, "w", encoding="utf-8")
 
-    def write(self, event, **members):
-        self.file.write(json.dumps({"ns": clock.monotonic_ns(), "event": event, **members}) + "\n")
+    def write(self, event, scope, **members):
+        within = {"scope": [scope]} if scope else {}
+        line = {"ns": clock.monotonic_ns(), "event": event, **within, **members}
+        self.file.write(json.dumps(line) + "\n")
 
     def dataflow(self, dataflow):
         for it in dataflow.operators:
-            its = {"node": it.node, "name": it.name, "inputs": it.inputs, "outputs": it.outputs}
-            self.write("Operates", **its, summary=it.summary())
+            scope = dataflow.scope_of(it)
+            its = {"node": it.node[1] if scope else it.node, "name": it.name}
+            its |= {"inputs": it.inputs, "outputs": it.outputs, "summary": it.summary()}
+            self.write("Operates", scope, **its)
         for it in dataflow.channels:
-            self.write("Channels", source=it.source[1:], target=it.target[1:])
+            scope = it.source.scope
+            ends = [[end.node[1] if scope else end.node, end.port] for end in (it.source, it.target)]
+            self.write("Channels", scope, source=ends[0], target=ends[1])
 
-    def progress(self, is_send, source, seq_no, batch):
-        self.write("TimelyProgress", is_send=is_send, source=source, seq_no=seq_no, **batch)
+    def progress(self, is_send, scope, source, seq_no, batch):
+        self.write("TimelyProgress", scope, is_send=is_send, source=source, seq_no=seq_no, **batch)
 
 
 class Capability:
@@ -92,15 +98,18 @@ class Worker(threading.Thread):
     def __init__(self, index, dataflow, network, log, inputs, random):
         super().__init__(name=f"worker {index}")
         self.index, self.dataflow, self.network = index, dataflow, network
-        self.log, self.inputs, self.random, self.sent = log, inputs, random, 0
+        self.log, self.inputs, self.random, self.sent = log, inputs, random, collections.Counter()
         self.changes, self.tracker = Changes(), Tracker(dataflow, len(network.boxes))
         self.messages = collections.defaultdict(list)
-        self.logics = [self.logic(it) for it in dataflow.operators]
+        self.logics = collections.defaultdict(list)
+        for it in dataflow.operators:
+            if it.logic:
+                self.logics[dataflow.scope_of(it)].append(self.logic(it))
 
     def logic(self, operator):
         """What is run of an operator; it begins with a capability per output."""
-        outputs = (Location("out", operator.node, port) for port in range(operator.outputs))
-        return operator.logic(self, operator, [Capability(self, it, 0, True) for it in outputs])
+        firsts = [Capability(self, it, (0, 0) if it.scope else 0, True) for it in operator.outs()]
+        return operator.logic(self, operator, firsts)
 
     def run(self):
         self.log.dataflow(self.dataflow)
@@ -110,36 +119,57 @@ class Worker(threading.Thread):
         self.log.file.close()
 
     def step(self):
-        """Runs each operator, sends progress, and reads the mail; false if there is no more to do."""
-        ran = any([it.schedule() for it in self.random.sample(self.logics, len(self.logics))])
-        self.send_progress()
-        mail = self.network.fetch(self.index, not ran)
+        """Runs each operator, sends progress, and reads the mail; false if there is no more to do. A scope
+        sends its progress when its operators have run."""
+        ran = [self.run_scope(it) for it in self.random.sample(list(self.logics), len(self.logics))]
+        self.send_progress(None)
+        mail = self.network.fetch(self.index, not any(ran))
+        scopes = [*self.logics, None]
+        if mail and self.random.random() < 0.5:  # each scope has a channel of its own
+            mail.sort(key=lambda it: scopes.index(it[1]) if it[0] == "receive_progress" else 0)
         for receive, *its in mail or ():
             getattr(self, receive)(*its)
         return mail is not None and not self.tracker.is_complete()
 
+    def run_scope(self, scope):
+        """Runs each operator of a scope; whether any did anything."""
+        logics = self.logics[scope]
+        ran = any([it.schedule() for it in self.random.sample(logics, len(logics))])
+        if scope:
+            self.send_progress(scope)
+        return ran
+
     def receive_message(self, target, time, value):
         self.messages[target].append((time, value))
 
-    def receive_progress(self, source, seq_no, batch):
-        self.log.progress(False, source, seq_no, batch)
-        self.tracker.apply(batch)
+    def receive_progress(self, scope, source, seq_no, batch):
+        self.log.progress(False, scope, source, seq_no, batch)
+        self.tracker.apply(scope, batch)
 
-    def send_progress(self):
-        """Sends what was gathered to all workers, this one included."""
-        batch = self.changes.take()
+    def send_progress(self, scope):
+        """Sends what was gathered in a scope to all workers, this one included."""
+        batch = self.changes.take(scope)
         if batch:
-            self.sent += 1
-            self.log.progress(True, self.index, self.sent, batch)
+            self.sent[scope] += 1
+            its = scope, self.index, self.sent[scope], batch
+            self.log.progress(True, *its)
             for to in range(len(self.network.boxes)):
-                self.network.send(to, ("receive_progress", self.index, self.sent, batch))
+                self.network.send(to, ("receive_progress", *its))
 
-    def send(self, output, time, value):
-        """Sends a value on each channel of an output."""
+    def send(self, output, time, value, is_told=False):
+        """Sends a value on each channel of an output. If it left a scope, that one tells of it."""
         for channel in self.dataflow.leaving(output):
-            self.changes.add(channel.target, time, 1)
-            to = value % len(self.network.boxes) if channel.exchange else self.index
-            self.network.send(to, ("receive_message", channel.target, time, value))
+            target = channel.target
+            if not is_told:
+                self.changes.add(target, time, 1)
+            if self.dataflow.is_scope(target.node):
+                self.changes.add(target.across(), (time, 0), -1)
+                self.send(target.across(), (time, 0), value)
+            elif target.scope and target.node[1] == BORDER:
+                self.send(target.across(), time[0], value, True)
+            else:
+                to = value % len(self.network.boxes) if channel.exchange else self.index
+                self.network.send(to, ("receive_message", target, time, value))
 
     def read(self, target):
         """Returns the messages at an input, and counts them as consumed."""

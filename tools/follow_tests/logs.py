@@ -54,6 +54,68 @@ def cut(logs, worker, count):
     return [log[:count] if at == worker else log for at, log in enumerate(logs)]
 
 
+# A loop: a --> [enter --> body --> leave] --> z, where body also sends round by a feedback.
+LOOP = [
+    operates(1, "a", 0, 1),
+    operates(2, "Loop: all", 1, 1),
+    operates(1, "body", 2, 2, scope=[2]),
+    operates(2, "Feedback", 1, 1, scope=[2], summary=[[0, 0, 1]]),
+    operates(3, "z", 1, 0),
+    channel([1, 0], [2, 0]),
+    channel([2, 0], [3, 0]),
+    channel([0, 0], [1, 0], scope=[2]),
+    channel([2, 0], [1, 1], scope=[2]),
+    channel([1, 0], [2, 0], scope=[2]),
+    channel([1, 1], [0, 0], scope=[2]),
+]
+# A region: a --> [enter --> m --> leave] --> z, whose times have no counter of their own.
+REGION = [
+    operates(1, "a", 0, 1),
+    operates(2, "Region", 1, 1),
+    operates(1, "m", 1, 1, scope=[2]),
+    operates(3, "z", 1, 0),
+    channel([1, 0], [2, 0]),
+    channel([2, 0], [3, 0]),
+    channel([0, 0], [1, 0], scope=[2]),
+    channel([1, 0], [0, 0], scope=[2]),
+]
+
+
+def inside(worker, number, messages=(), internal=()):
+    """A batch of the scope."""
+    return sent(worker, number, messages, internal, scope=[2])
+
+
+LOOP_DROPS = [[1, 0, [0, 0], -1], [1, 1, [0, 0], -1], [2, 0, [0, 0], -1]]
+# A message enters the loop, goes round once, leaves it, and is read.
+ENTERS = inside(0, 1, [[2, 0, [0, 0], 1]], [[0, 0, [0, 0], -1], *LOOP_DROPS])
+INTO = sent(0, 1, [[2, 0, [0], 1]], [[1, 0, [0], -1]])
+ROUND = inside(0, 2, [[2, 0, [0, 0], -1], [1, 1, [0, 1], 1]])
+LEAVES = inside(0, 3, [[1, 1, [0, 1], -1], [0, 0, [0, 1], 1]])
+ENDED = sent(0, 2, [[3, 0, [0], -1]])
+IN_LOOP = [ENTERS, INTO, ROUND, LEAVES, ENDED]
+# Of two workers the second consumes what comes round, and what leaves.
+OTHER = [
+    inside(1, 1, [], LOOP_DROPS),
+    sent(1, 1, [], [[1, 0, [0], -1]]),
+    ENTERS,
+    INTO,
+    ROUND,
+    inside(1, 2, [[1, 1, [0, 1], -1], [0, 0, [0, 1], 1]]),
+    sent(1, 2, [[3, 0, [0], -1]]),
+]
+
+
+def other_way(logs):
+    """Logs in which a worker receives the batches of the dataflow before those of the scope."""
+    found = []
+    for log in logs:
+        received = [it for it in log if it.get("is_send") is False]
+        received.sort(key=lambda it: "scope" in it)
+        found.append([it for it in log if it.get("is_send") is not False] + received)
+    return found
+
+
 # One worker that sends a message at epoch 0 through m to z, and ends.
 DROPS = [[M, 0, [0], -1]]
 ENDS = [[A, 0, [0], -1], *DROPS]
@@ -64,6 +126,18 @@ IDLE = sent(1, 1, [], ENDS)
 
 # The logs.
 FOLLOWED = {
+    "a message round a loop": logs_of(1, IN_LOOP, LOOP),
+    "two workers and a loop": logs_of(2, OTHER, LOOP),
+    "scopes whose batches come in another order": other_way(logs_of(2, OTHER, LOOP)),
+    "a region": logs_of(
+        1,
+        [
+            inside(0, 1, [[0, 0, [0], 1]], [[0, 0, [0], -1], [1, 0, [0], -1]]),
+            sent(0, 1, [[2, 0, [0], 1]], [[1, 0, [0], -1]]),
+            sent(0, 2, [[3, 0, [0], -1]]),
+        ],
+        REGION,
+    ),
     "a message through m": logs_of(1, [FED, PASSED, READ]),
     "two workers, of which one does nothing": logs_of(2, [FED, IDLE, PASSED, READ]),
     "a message that another worker consumes": logs_of(
@@ -152,6 +226,19 @@ FOLLOWED = {
 }
 # The logs, and what is said.
 HANGS = {
+    "a capability in a loop": (
+        logs_of(1, [*IN_LOOP[:3], inside(0, 3, [[1, 1, [0, 1], -1]], [[1, 1, [0, 1], 1]])], LOOP),
+        ["z 3 in 0 (0) does not finish", "worker 0 holds a capability of body 2.1 out 1 (0,1)",
+         "since batch 3 (w0, line 18)"],
+    ),
+    "a message that stays in a loop": (
+        logs_of(1, IN_LOOP[:3], LOOP),
+        ["a message at body 2.1 in 1 (0,1), which no batch says is consumed"],
+    ),
+    "a message that does not enter a loop": (
+        logs_of(1, [inside(0, 1, [], LOOP_DROPS), INTO], LOOP),
+        ["a message at Loop: all 2 in 0 (0), which no batch says is consumed"],
+    ),
     "a capability that is held from the start": (
         logs_of(1, [sent(0, 1, [], DROPS)]),
         ["z 3 in 0 (0) does not finish", "worker 0 holds a capability of a 1 out 0 (0)", "since the start",
@@ -219,6 +306,16 @@ HANGS = {
 }  # fmt: skip
 # The logs, where it is, and what is said.
 WRONG = {
+    "a lost batch of a loop": (
+        without(logs_of(2, OTHER, LOOP), 1, len(LOOP) + 4),
+        "refused at w1, line ",
+        ["its seq_no is 2, and 1 is the next of worker 0"],
+    ),
+    "a capability in a loop that is dropped twice": (
+        logs_of(1, [inside(0, 1, [], [[1, 0, [0, 0], -2]])], LOOP),
+        "refused at w0, line 12",
+        ["entry [1, 0, [0, 0], -2], body 2.1 out 0 (0,0): worker 0 gives up 2 there, and holds 1"],
+    ),
     "a capability that is given up twice": (
         logs_of(1, [FED, sent(0, 2, [], [[M, 0, [0], -1]])]),
         "refused at w0, line 8: batch 2 of worker 0",
@@ -313,15 +410,25 @@ def fed_with(*entry):
 
 # The logs, where it is, and what is said.
 MISREAD = {
+    "more enters a loop than was sent to it": (
+        logs_of(1, [inside(0, 1, [], [[0, 0, [0, 0], -2], *LOOP_DROPS]), INTO], LOOP),
+        "unsupported: w0, line 12",
+        "the entry at Loop: all 2 in 0 (0); the worker's batches in other scopes: w0, line 14 (scope [])",
+    ),
+    "a time of a loop with one number": (
+        logs_of(1, [ENTERS, inside(0, 2, [[2, 0, [0], -1]])], LOOP),
+        "unsupported: w0, line 14",
+        "the time [0]; a time can be a list of 2 numbers there",
+    ),
     "a second scope": (
         line_but(5, scope=[4]),
         "unsupported: w0, line 6",
-        "the scope [4] beside []; one scope can be followed, without loops",
+        "the scope [4], and no operator of the scope [] is it",
     ),
     "operators of a second scope": (
         [[*LINE, operates(1, "inner", 1, 1, scope=[2]), FED]],
-        "unsupported: w0, line 6",
-        "the scope [2] beside []",
+        "unsupported: w0, line 7",
+        "an entry at the border of m 2, which is a scope: no message there explains it",
     ),
     "a time of two numbers": (fed_with(M, 0, [0, 0], 1), "unsupported: w0, line 6", "the time [0, 0]"),
     "a time that is no number": (fed_with(M, 0, ["now"], 1), "unsupported: w0, line 6", "the time ['now']"),

@@ -276,7 +276,8 @@ FOLLOWED = {
             ],
         ],
         [
-            "processor 0, not broadcast: s-z (0): -1; not received: 1 update from each of processors 0 and 1",
+            "processor 0, not broadcast: s-z (0): -1; not received: 1 update from each of processors 0"
+            " and 1",
             "processor 1, not broadcast: s (0): -1 and s-z (0): 1",
         ],
     ),

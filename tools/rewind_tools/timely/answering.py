@@ -9,6 +9,7 @@ from typing import NamedTuple
 
 from rewind_tools.at_rest import why_at_rest
 from rewind_tools.following.endings import DIFFERS, FOLLOWED, INCOMPLETE, REFUSED, TOO_LONG
+from rewind_tools.timely.dataflow import ENTERED, across
 
 HANG = "hang"
 STATUSES = {FOLLOWED: 0, HANG: 0, INCOMPLETE: 0, REFUSED: 1, DIFFERS: 1, TOO_LONG: 3}
@@ -86,13 +87,8 @@ def missing_of(run, is_unheard):
 
 def unheard_of(run, worker):
     """The batches that a worker did not receive."""
-    got = run.planner.workers[worker].got
-    return [
-        batch
-        for sender, batches in enumerate(run.progress.sent)
-        for number, batch in batches.items()
-        if number > got[sender]
-    ]
+    got = run.planner.workers[worker].indexes
+    return [it for batches in run.progress.sent for it in batches if it.index > got[it.source, it.scope]]
 
 
 def questions_of(run):
@@ -100,21 +96,31 @@ def questions_of(run):
     sinks = run.dataflow.sinks()
     asked = [{"do": "why", "q": 0, "at": it.vertex} for it in sinks]
     found = [question(run, *it) for it in why_at_rest(run.follower, asked)]
-    return sorted(found, key=lambda it: it.time)
+    return sorted(found, key=lambda it: numbers_of(it.time))
+
+
+def numbers_of(time):
+    """A time as a list of numbers; it is one, or within loops a tuple."""
+    return list(time) if type(time) is tuple else [time]
+
+
+def time_of(numbers):
+    return tuple(numbers) if len(numbers) > 1 else numbers[0]
 
 
 def question_of(run, worker, port, time):
     """Why a worker does not consider a time finished at an input. A time that no log has is as good as the
     last one before it."""
-    rank = bisect.bisect_right(run.epochs.order, time) - 1
-    asked = [{"do": "why", "q": worker, "at": port.vertex, "time": [rank]}]
+    epoch, *counters = numbers_of(time)
+    rank = bisect.bisect_right(run.epochs.order, epoch) - 1
+    asked = [{"do": "why", "q": worker, "at": port.vertex, "time": [rank, *counters]}]
     ((query, reply),) = why_at_rest(run.follower, asked)
     return question(run, query, reply)._replace(time=time)
 
 
 def question(run, query, reply):
-    sink, time = run.dataflow.by_vertex[query["at"]], run.epochs.order[query["time"][0]]
-    reasons = []
+    sink, (rank, *counters) = run.dataflow.by_vertex[query["at"]], query["time"]
+    time, reasons = time_of([run.epochs.order[rank], *counters]), []
     for it in run.epochs.told(reply)["reasons"]:
         for held in it["held"]:
             reason = reason_of(run, held, it["point"])
@@ -125,8 +131,10 @@ def question(run, query, reply):
 def reason_of(run, held, point):
     """What a reason of the program's holds. A message that nobody takes is at rest one that somebody took:
     at an input nothing else is held."""
-    name, (time,) = point
-    port = run.dataflow.by_vertex[name]
+    name, numbers = point
+    port, time = run.dataflow.by_vertex[name], time_of(numbers)
+    if port.side == ENTERED:
+        port, time = port.across, across(port, time)
     if not port.is_output:
         return message(run, port, time)
     worker = run.planner.workers[held["p"]]
@@ -137,12 +145,7 @@ def reason_of(run, held, point):
 
 def message(run, port, time):
     """The messages at an input that no batch says are consumed."""
-    made = [
-        run.progress.sent[worker][number]
-        for worker, changes in enumerate(run.progress.changes)
-        for number, change in changes.items()
-        if (port, time) in change.makes
-    ]
+    made = [it for it, change in run.progress.changes.items() if (port, time) in change.delivered]
     return Reason(MESSAGE, None, port, time, run.planner.unconsumed((port, time)), made)
 
 
@@ -154,18 +157,19 @@ def left_of(run):
             for time, count in held.counts.items():
                 born = worker.born[port, time]
                 found.append(Reason(CAPABILITY, worker.index, port, time, count, [born] if born else []))
-    for port, time in sorted({(it.hop.target.vertex, it.time) for it in run.planner.left()}):
-        found.append(message(run, run.dataflow.by_vertex[port], time))
+    left = {(it.hop.target, it.time) for it in run.planner.left()}
+    found += [message(run, *it) for it in sorted(left, key=lambda it: (it[0].vertex, numbers_of(it[1])))]
     return found
 
 
 def silent_first(run):
     """The workers, those first whose last batch came first in the log that has most lines."""
     log = max(run.logs, key=lambda it: it.count)
-    places = {(it.source, it.number): place for place, (_, _, it) in enumerate(log.batches)}
+    places = {(it.source, it.scope, it.index): place for place, (_, _, it) in enumerate(log.batches)}
     lasts = [(it, last_batch(run, it)) for it in range(len(run.logs))]
     place_of = {
-        worker: places.get((worker, last.number), len(places)) if last else -1 for worker, last in lasts
+        worker: places.get((worker, last.scope, last.index), len(places)) if last else -1
+        for worker, last in lasts
     }
     return sorted(place_of, key=place_of.get)
 

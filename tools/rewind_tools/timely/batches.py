@@ -2,26 +2,31 @@
 
     progress = Progress(logs, dataflow)     Unreadable or Unsupported, if an entry has another form
     progress.events[1]                      of worker 1, in its order: whether it sent a batch, and the batch
-    progress.sent[1][4]                     batch 4 of worker 1; progress.changes[1][4] is its Change
+    progress.sent[1]                        the batches of worker 1, of all scopes, in the order of its log
+    progress.changes[batch]                 the Change of a batch that was sent
     progress.differing[batch]               by how much a batch was received as another than it was sent
-    progress.times                          all times
+    progress.epochs                         the first numbers of all times
 
 If a worker's log does not have a batch that others received, those are its last events
-(progress.rebuilt)."""
+(progress.rebuilt). A time is a number, or within loops a tuple."""
 import collections
 from typing import NamedTuple
 
 from rewind_tools.following.epochs import is_whole
+from rewind_tools.following.traces import MOST_COUNTER
+from rewind_tools.timely.dataflow import ENTERED, ENTRY, LEAVING, LEFT, across
 from rewind_tools.timely.logs import Unreadable, Unsupported
 
 
 class Change(NamedTuple):
     """What a batch says, by port and time: how many messages are consumed and produced, and how many
-    capabilities there are more or, below 0, less."""
+    capabilities there are more or, below 0, less. `delivered` has the messages that are produced where they
+    arrive, which is elsewhere if they leave a scope."""
 
     takes: dict
     makes: dict
     capabilities: dict
+    delivered: dict
 
     def messages(self):
         """The differences of messages."""
@@ -30,15 +35,19 @@ class Change(NamedTuple):
 
 class Progress:
     def __init__(self, logs, dataflow):
-        self.dataflow, self.times = dataflow, {0}
-        self.events, self.sent, self.changes, self.differing = [], [], [], {}
+        self.dataflow, self.epochs = dataflow, {0}
+        self.events, self.changes, self.differing = [], {}, {}
         self.firsts = first_numbers(logs)
         for log in logs:
-            self.events.append([self.numbered(it) for _, _, it in log.batches])
+            self.events.append([self.indexed(it) for _, _, it in log.batches])
         self.rebuilt = [self.rebuild(worker) for worker in range(len(logs))]
-        for events in self.events:
-            self.sent.append({it.number: it for is_send, it in events if is_send})
-            self.changes.append({number: self.change(it) for number, it in self.sent[-1].items()})
+        self.sent = [[it for is_send, it in events if is_send] for events in self.events]
+        self.by_index = {}
+        for batches in self.sent:
+            for number, it in enumerate(batches, 1):
+                it.number = number
+                self.by_index[it.source, it.scope, it.index] = it
+                self.changes[it] = self.change(it)
         for events in self.events:
             for is_send, it in events:
                 if not is_send:
@@ -47,59 +56,91 @@ class Progress:
             for _, it in events:
                 it.messages = it.internal = None  # which a million batches have no room for
 
-    def numbered(self, batch):
-        batch.number = batch.seq_no - self.firsts[batch.source] + 1
+    def indexed(self, batch):
+        batch.index = batch.seq_no - self.firsts[batch.source, batch.scope] + 1
         return batch.is_send, batch
 
     def rebuild(self, worker):
         """Adds the batches of a worker that others received and its log does not have; returns them."""
-        events = self.events[worker]
-        last = max((it.number for is_send, it in events if is_send), default=0)
-        others = {
-            it.number: it
-            for received in self.events
-            for is_send, it in received
-            if not is_send and it.source == worker and it.number > last
-        }
+        events, lasts = self.events[worker], collections.Counter()
+        for is_send, it in events:
+            if is_send:
+                lasts[it.scope] = max(lasts[it.scope], it.index)
         found = []
-        while last + len(found) + 1 in others:
-            found.append(others[last + len(found) + 1])
+        for received in self.events:
+            for is_send, it in received:
+                if not is_send and it.source == worker and it.index == lasts[it.scope] + 1:
+                    lasts[it.scope] += 1
+                    found.append(it)
         events += [(True, it) for it in found]
         return found
 
     def change(self, batch):
-        messages = self.summed(batch, "messages")
-        takes = {point: -n for point, n in messages.items() if n < 0}
+        messages, enter = self.summed(batch, "messages"), collections.Counter()
+        capabilities = self.summed(batch, "internal")
+        if self.dataflow.is_nested:
+            self.check_borders(batch, messages, capabilities)
+            for port, time in [it for it in capabilities if it[0].side == ENTERED]:
+                enter[port.across, across(port, time)] += capabilities.pop((port, time))
+        takes = {point: -n for point, n in [*messages.items(), *enter.items()] if n < 0}
         makes = {point: n for point, n in messages.items() if n > 0} if takes else messages
-        return Change(takes, makes, self.summed(batch, "internal"))
+        return Change(takes, makes, capabilities, self.delivered(makes))
+
+    def check_borders(self, batch, messages, capabilities):
+        """That messages enter a scope by its own batches, and leave it by them."""
+        wrong = [it for it, n in messages.items() if n < 0 and it[0].side in (ENTRY, LEAVING)]
+        wrong += [it for it in capabilities if it[0].side == LEFT]
+        wrong += [it for it, n in capabilities.items() if it[0].side == ENTERED and n > 0]
+        if wrong:
+            operator = wrong[0][0].operator
+            border = f"an entry at the border of {operator.name} {operator.address}, which is a scope"
+            raise Unsupported(batch.log.path, batch.line, f"{border}: no message there explains it")
+
+    def delivered(self, makes):
+        if all(port.side != LEAVING for port, _ in makes):
+            return makes
+        found = collections.Counter()
+        for (port, time), n in makes.items():
+            found.update({point: n for point in self.dataflow.delivered(port, time)})
+        return found
+
+    def port_of(self, batch, side, node, number):
+        is_one = is_whole(node) and is_whole(number)
+        return self.dataflow.ports.get((side, batch.scope, node, number)) if is_one else None
 
     def summed(self, batch, kind):
         """The entries of one kind, added by port and time; those that add up to 0 are left out."""
-        ports, found = self.dataflow.ports, {}
-        side = "in" if kind == "messages" else "out"
+        scope, found = self.dataflow.scopes[batch.scope], {}
+        side, numbers = "in" if kind == "messages" else "out", scope.depth + 1
         for it in getattr(batch, kind):
             if type(it) is not list or len(it) != 4 or type(it[3]) is not int:
                 raise Unreadable(batch.log.path, batch.line, f"an entry is [node, port, time, n], not {it}")
             node, number, time, n = it
-            if type(time) is not list or len(time) != 1 or not is_whole(time[0]):
-                why = f"the time {time}; a time can be a list of one number"
-                raise Unsupported(batch.log.path, batch.line, why)
-            port = ports.get((side, node, number)) if is_whole(node) and is_whole(number) else None
+            if type(time) is not list or len(time) != numbers or not is_whole(time[0]):
+                raise Unsupported(batch.log.path, batch.line, time_words(time, numbers))
+            port = self.port_of(batch, side, node, number)
             if port is None or not (port.is_output or self.dataflow.into[port]):
                 where = f"{side}put {number} of operator {node}"
                 why = f"an entry of {kind} at {where}, which is not in the logs"
                 raise Unreadable(batch.log.path, batch.line, why)
-            self.times.add(time[0])
-            found[port, time[0]] = found.get((port, time[0]), 0) + n
+            self.epochs.add(time[0])
+            point = port, time[0] if numbers == 1 else self.nested(batch, time)
+            found[point] = found.get(point, 0) + n
         return {point: n for point, n in found.items() if n}
+
+    def nested(self, batch, time):
+        """A time within loops."""
+        if not all(is_whole(it, MOST_COUNTER - 1) for it in time[1:]):
+            raise Unsupported(batch.log.path, batch.line, time_words(time, len(time)))
+        return tuple(time)
 
     def compare(self, batch):
         """Compares a batch that was received with the one that was sent."""
-        sent = self.sent[batch.source].get(batch.number)
+        sent = self.by_index.get((batch.source, batch.scope, batch.index))
         if sent is None or sent.messages is batch.messages and sent.internal is batch.internal:
             return
         apart = entries(self.change(batch))
-        apart.subtract(entries(self.changes[batch.source][batch.number]))
+        apart.subtract(entries(self.changes[sent]))
         if any(apart.values()):
             self.differing[batch] = {point: n for point, n in apart.items() if n}
 
@@ -109,11 +150,16 @@ def entries(change):
     return collections.Counter({**change.messages(), **change.capabilities})
 
 
+def time_words(time, numbers):
+    wanted = "one number" if numbers == 1 else f"{numbers} numbers"
+    return f"the time {time}; a time can be a list of {wanted} there"
+
+
 def first_numbers(logs):
-    """By worker the number of its first batch: 0, as some versions of timely have it, or 1."""
-    firsts = [1] * len(logs)
+    """By worker and scope the number of its first batch: 0, as some versions of timely have it, or 1."""
+    firsts = collections.defaultdict(lambda: 1)
     for log in logs:
-        for _, _, it in log.batches:
+        for _, scope, it in log.batches:
             if it.seq_no == 0:
-                firsts[it.source] = 0
+                firsts[it.source, scope] = 0
     return firsts

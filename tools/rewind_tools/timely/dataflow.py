@@ -1,154 +1,274 @@
 """The dataflow that logs describe, and the graph by ports that the program follows it on.
 
-    dataflow = Dataflow(logs)         Unreadable or Unsupported, if there is none that can be followed
-    dataflow.graph()                  the value of the graph's line
-    dataflow.outputs[3]               a Port; so is dataflow.inputs[3]
-    dataflow.ways(output)             what can lead to an output, the nearest first
+    dataflow = Dataflow(logs)           Unreadable or Unsupported, if there is none that can be followed
+    dataflow.graph()                    the value of the graph's line
+    dataflow.outputs, dataflow.inputs   Ports, those of the scopes' borders aside
+    dataflow.ways(output)               what can lead to an output, the nearest first
 
 Each port is an opaque vertex, an output with a capability at the start. A local edge leads from an input to
-each output that the summary connects, and a channel is an exchange edge. By the names of its vertices the
-tools show an operator as one (ports.py)."""
+each output that the summary connects, through a feedback vertex for each round by which it delays; and a
+channel is an exchange edge. By the names of its vertices the tools show an operator as one (ports.py).
+
+A scope is an operator of the scope around it. A message enters at an input of that: an ingress vertex, or in
+a region, whose times have no counter of their own, an opaque one. From there a local edge leads to an opaque
+vertex within, which the channels leave that the log has from node 0. A message leaves over an egress and an
+opaque vertex, the scope's output, in the same way."""
+import json
 import re
 from typing import NamedTuple
 
+from rewind_tools.following.epochs import is_whole
 from rewind_tools.timely.logs import Unreadable, Unsupported
 
 MOST_PORTS = 16
-# How much of an operator's name is taken over.
-LONGEST = 14
-NO_DELAY = "0"
+# How much of an operator's name is taken over, and by how many rounds a summary may delay.
+LONGEST, MOST_DELAY = 14, 16
+NO_DELAY = 0
+# The node that stands for the border of a scope, in its channels and batches; and the ports there: outside
+# an input, and within what comes from it; within what leaves, and outside an output.
+BORDER = 0
+ENTRY, ENTERED, LEAVING, LEFT = "in", "enter", "leave", "out"
 
 
 class Port:
     """An input or an output: its vertex in the graph, and its name in words. `edges` are those that leave
-    it, by the port of the vertex."""
+    it, by the port of the vertex; `depth` is how many counters its times have. At a scope's border `side`
+    says what it is, and `across` is the port on the other side."""
 
-    def __init__(self, operator, number, is_output):
-        self.operator, self.number, self.is_output = operator, number, is_output
-        kind = "out" if is_output else "in"
+    def __init__(self, operator, number, is_output, depth, side=None, op="opaque"):
+        self.operator, self.number, self.is_output, self.depth = operator, number, is_output, depth
+        self.op, self.side, self.across, self.edges = op, side, None, []
+        kind = side or ("out" if is_output else "in")
         self.vertex = f"{short(operator)}.{kind}{number}"
-        self.words = f"{operator.name} {operator.node} {kind} {number}"
-        self.edges = []
+        self.words = f"{operator.name} {operator.address} {kind} {number}"
 
     def count(self):
         """How many ports its vertex has."""
-        return max(1, len(self.edges)) if self.is_output else self.operator.outputs
+        return max(1, len(self.edges)) if self.is_output or self.side else self.operator.outputs
+
+    def value(self):
+        """Its vertex in the graph's line."""
+        its = {"name": self.vertex, "op": self.op, "depth": self.depth}
+        its |= {"ports": self.count()} if self.op == "opaque" else {}
+        return its | ({"starts": True} if self.is_output and not self.side else {})
 
 
 def short(operator):
     """An operator's name in the graph, whose names have at most 32 bytes."""
-    return re.sub(r"\W", "_", operator.name, flags=re.ASCII)[:LONGEST] + f"-{operator.node}"
+    return re.sub(r"\W", "_", operator.name, flags=re.ASCII)[:LONGEST] + f"-{operator.address}"
 
 
 class Hop(NamedTuple):
-    """An edge from a port to another, with the number of the vertex's port that it leaves."""
+    """An edge from a port to another, with the number of the vertex's port that it leaves. `rounds` are the
+    feedback vertices on the way, each with the edge behind it."""
 
     edge: str
     source: Port
     port: int
     target: Port
+    rounds: tuple = ()
 
 
 class Way(NamedTuple):
-    """How a capability at a port, or a message taken there, leads to an output: a hop, and the way on."""
+    """How a capability at a port, or a message taken there, leads to an output: a hop, and the way on; and
+    how many rounds later that is."""
 
     source: Port
     hop: Hop | None
     on: object
+    delay: int
 
     def hops(self):
         way = self
         while way.hop:
-            yield way.hop
+            yield way.hop, way.on.delay
             way = way.on
+
+
+class Scope(NamedTuple):
+    """A scope: its address, how many counters its times have, and the operator that it is in the scope
+    around it; None at the root."""
+
+    address: tuple
+    depth: int
+    operator: object
 
 
 class Dataflow:
     def __init__(self, logs):
-        scope = one_scope(logs)
-        self.operators = operators_of(logs, scope)
-        self.outputs, self.inputs, self.ports = [], [], {}
-        for it in self.operators.values():
-            for kind, count, listed in (("in", it.inputs, self.inputs), ("out", it.outputs, self.outputs)):
-                for number in range(count):
-                    port = self.ports[kind, it.node, number] = Port(it, number, kind == "out")
-                    listed.append(port)
-        self.by_vertex = {it.vertex: it for it in self.ports.values()}
+        self.root, found = scopes_of(logs)
+        self.operators = operators_of(logs, self.root, found)
+        self.scopes = {}
+        for address in sorted(found, key=len):
+            self.add_scope(logs, address, *found[address])
+        self.outputs, self.inputs, self.borders, self.ports = [], [], [], {}
+        for (scope, _), it in self.operators.items():
+            if it.path in self.scopes:
+                self.add_border(it, self.scopes[scope].depth)
+            else:
+                self.add_ports(scope, it)
+        every = [*self.inputs, *self.outputs, *self.borders]
+        self.by_vertex = {it.vertex: it for it in every}
         # the channels into an input, and the inputs that lead to an output
-        self.into = {it: [] for it in self.inputs}
-        self.before = {it: [] for it in self.outputs}
+        self.into = {it: [] for it in every if not it.is_output}
+        self.before = {it: [] for it in every if it.is_output}
         self.connect()
-        self.add_channels(logs, scope)
+        self.add_channels(logs)
         self.known_ways = {}
+
+    @property
+    def is_nested(self):
+        return len(self.scopes) > 1
+
+    def add_scope(self, logs, address, path, line):
+        """Adds a scope, which is an operator of the one around it."""
+        if address == self.root:
+            self.scopes[address] = Scope(address, 0, None)
+            return
+        around, operator = self.scopes.get(address[:-1]), self.operators.get((address[:-1], address[-1]))
+        if around is None or operator is None:
+            why = f"the scope {list(address)}, and no operator of the scope {list(address[:-1])} is it"
+            raise Unsupported(path, line, why)
+        depth = depth_of(logs, address)
+        depth = around.depth + 1 if depth is None else depth
+        if depth - around.depth not in (0, 1):
+            numbers = f"times of {depth + 1} numbers in the scope {list(address)}"
+            why = f"{numbers}, and of {around.depth + 1} around it"
+            raise Unsupported(path, line, why)
+        self.scopes[address] = Scope(address, depth, operator)
+
+    def add_ports(self, scope, it):
+        for kind, count, listed in (("in", it.inputs, self.inputs), ("out", it.outputs, self.outputs)):
+            for number in range(count):
+                port = Port(it, number, kind == "out", self.scopes[scope].depth)
+                self.ports[kind, scope, it.node, number] = port
+                listed.append(port)
+
+    def add_border(self, it, depth):
+        """Adds the ports of a scope: outside and within."""
+        inside = self.scopes[it.path].depth
+        enter, leave = ("ingress", "egress") if inside > depth else ("opaque", "opaque")
+        scope, node, inner = it.path[:-1], it.node, it.path
+        for at in range(it.inputs):
+            self.ports["in", scope, node, at] = outside = Port(it, at, False, depth, ENTRY, enter)
+            self.ports["out", inner, BORDER, at] = within = Port(it, at, True, inside, ENTERED)
+            self.cross(outside, within)
+        for at in range(it.outputs):
+            self.ports["in", inner, BORDER, at] = within = Port(it, at, False, inside, LEAVING, leave)
+            self.ports["out", scope, node, at] = outside = Port(it, at, True, depth, LEFT)
+            self.cross(within, outside)
+
+    def cross(self, source, target):
+        """Adds the edge over a border."""
+        source.across, target.across = target, source
+        edge = f"{short(source.operator)}.{source.side[0]}{source.number}"
+        source.edges.append(Hop(edge, source, 0, target))
+        self.borders += [source, target]
 
     def connect(self):
         """Adds the edges of the summaries."""
-        for it in self.operators.values():
-            for source, target in sorted({pair[:2] for pair in it.summary}):
-                inside = self.ports["in", it.node, source], self.ports["out", it.node, target]
-                hop = Hop(f"{short(it)}.{source}-{target}", inside[0], target, inside[1])
+        for (scope, _), it in self.operators.items():
+            if it.path in self.scopes:
+                continue
+            for source, target, delay in sorted(set(it.summary)):
+                inside = self.ports["in", scope, it.node, source], self.ports["out", scope, it.node, target]
+                edge = f"{short(it)}.{source}-{target}"
+                rounds = tuple((f"{edge}*{it + 1}", f"{edge}+{it + 1}") for it in range(delay))
+                hop = Hop(edge, inside[0], target, inside[1], rounds)
                 inside[0].edges.append(hop)
                 self.before[inside[1]].append(hop)
 
-    def add_channels(self, logs, scope):
+    def add_channels(self, logs):
         for log in logs:
-            for line, its_scope, it in log.channels:
-                ends = self.ports.get(("out", *it.source)), self.ports.get(("in", *it.target))
-                if its_scope != scope:
+            for line, scope, it in log.channels:
+                if scope not in self.scopes:
                     continue
+                ends = self.ports.get(("out", scope, *it.source)), self.ports.get(("in", scope, *it.target))
                 if None in ends:
                     raise Unreadable(log.path, line, "a channel from or to a port that no operator has")
                 if all(channel.source is not ends[0] for channel in self.into[ends[1]]):
-                    self.add_channel(it, *ends)
+                    self.add_channel(scope, it, *ends)
                 if len(ends[0].edges) > MOST_PORTS:
                     why = f"{ends[0].words} has more than {MOST_PORTS} channels"
                     raise Unsupported(log.path, line, why)
 
-    def add_channel(self, channel, source, target):
+    def add_channel(self, scope, channel, source, target):
         name = "-".join(f"{node}.{port}" for node, port in channel)
-        hop = Hop(name, source, len(source.edges), target)
+        within = ".".join(map(str, scope[len(self.root) :]))
+        hop = Hop(f"{within}/{name}" if within else name, source, len(source.edges), target)
         source.edges.append(hop)
         self.into[target].append(hop)
 
     def ways(self, output):
-        """The ways to an output, those with fewer hops first; that of the output itself has none."""
+        """The ways to an output within its scope, those with fewer hops first; that of the output itself has
+        none."""
         if output not in self.known_ways:
-            ways, seen = [Way(output, None, None)], {output}
+            ways, seen = [Way(output, None, None, 0)], {output}
             for way in ways:
                 for hop in (self.before if way.source.is_output else self.into)[way.source]:
                     if hop.source not in seen:
                         seen.add(hop.source)
-                        ways.append(Way(hop.source, hop, way))
+                        ways.append(Way(hop.source, hop, way, way.delay + len(hop.rounds)))
             self.known_ways[output] = ways
         return self.known_ways[output]
 
+    def delivered(self, port, time):
+        """The inputs, with the time, at which a message arrives that is sent to an input: others than that,
+        if it leaves a scope."""
+        if port.side != LEAVING:
+            return [(port, time)]
+        return [it for hop in port.across.edges for it in self.delivered(hop.target, across(port, time))]
+
     def sinks(self):
         """The inputs of the operators from which no channel leads."""
-        last = [it for it in self.operators.values() if not self.has_channels(it)]
-        return [self.ports["in", it.node, number] for it in last for number in range(it.inputs)]
+        last = [(scope, it) for (scope, _), it in self.operators.items() if it.path not in self.scopes]
+        last = [(scope, it) for scope, it in last if not self.has_channels(scope, it)]
+        return [self.ports["in", scope, it.node, at] for scope, it in last for at in range(it.inputs)]
 
-    def has_channels(self, operator):
-        outputs = (self.ports["out", operator.node, number] for number in range(operator.outputs))
+    def has_channels(self, scope, operator):
+        outputs = (self.ports["out", scope, operator.node, number] for number in range(operator.outputs))
         return any(it.edges for it in outputs)
 
     def graph(self):
-        vertices = [
-            {"name": it.vertex, "op": "opaque", "depth": 0, "ports": it.count()}
-            | ({"starts": True} if it.is_output else {})
-            for it in self.inputs + self.outputs
-        ]
-        hops = [hop for it in self.inputs + self.outputs for hop in it.edges]
-        edges = [
-            {"name": it.edge, "from": it.source.vertex, "port": it.port, "to": it.target.vertex,
-             "route": "exchange" if it.source.is_output else "local"}
-            for it in hops
-        ]  # fmt: skip
+        vertices, edges = [], []
+        for port in [*self.inputs, *self.outputs, *self.borders]:
+            vertices.append(port.value())
+            for hop in port.edges:
+                route = "exchange" if port.is_output else "local"
+                start, name, out = port.vertex, hop.edge, hop.port
+                for vertex, after in hop.rounds:
+                    vertices.append({"name": vertex, "op": "feedback", "depth": port.depth})
+                    edges.append({"name": name, "from": start, "port": out, "to": vertex, "route": route})
+                    start, name, out = vertex, after, 0
+                last = {"name": name, "from": start, "port": out, "to": hop.target.vertex, "route": route}
+                edges.append(last)
         return {"vertices": vertices, "edges": edges}
 
 
-def one_scope(logs):
-    """The scope of the logs' channels and batches. Of the scopes around it the operators alone may be told,
-    which stand for whole dataflows."""
+def across(port, time):
+    """A time at a port of a scope's border as it is on the other side. A time is a number, or with counters
+    a tuple."""
+    if port.depth == port.across.depth:
+        return time
+    if port.depth < port.across.depth:
+        return (*time, 0) if type(time) is tuple else (time, 0)
+    return time[:-1] if len(time) > 2 else time[0]
+
+
+def delayed(time, rounds):
+    """A time so many rounds later, or earlier; None if there is none."""
+    if not rounds:
+        return time
+    return (*time[:-1], time[-1] + rounds) if time[-1] + rounds >= 0 else None
+
+
+def is_at_or_before(time, other):
+    return time <= other if type(time) is not tuple else all(map(int.__le__, time, other))
+
+
+def scopes_of(logs):
+    """The address of the root scope, and by address each scope with a line in which it is. Of the scopes
+    around the root the operators alone may be told, which stand for whole dataflows."""
     found = {}
     for log in logs:
         for line, scope, _ in log.channels + log.batches:
@@ -157,35 +277,59 @@ def one_scope(logs):
         for line, scope, _ in log.operators:
             if not any(scope == it[: len(scope)] for it in found):
                 found.setdefault(scope, (log.path, line))
-    first = min(found, key=len)
-    second = next((it for it in found if it != first), None)
-    if second is not None:
-        why = f"the scope {list(second)} beside {list(first)}; one scope can be followed, without loops"
-        raise Unsupported(*found[second], why)
-    return first
+    root = min(found, key=len)
+    other = next((it for it in found if it[: len(root)] != root), None)
+    if other is not None:
+        why = f"the scope {list(other)} beside {list(root)}; one dataflow can be followed"
+        raise Unsupported(*found[other], why)
+    return root, found
 
 
-def operators_of(logs, scope):
-    """The operators of a scope by node, in which all logs agree."""
+def depth_of(logs, address):
+    """How many counters the times of a scope have; None if there are no times."""
+    for log in logs:
+        for _, scope, batch in log.batches:
+            for it in batch.messages + batch.internal if scope == address else ():
+                if type(it) is list and len(it) == 4 and type(it[2]) is list and it[2]:
+                    return len(it[2]) - 1
+    return None
+
+
+def operators_of(logs, root, scopes):
+    """The operators of all scopes by scope and node, in which all logs agree."""
     found = {}
     for log in logs:
-        for line, its_scope, it in log.operators:
-            if its_scope != scope:
+        for line, scope, it in log.operators:
+            if scope not in scopes:
                 continue
-            check_summary(log, line, it)
-            if found.setdefault(it.node, it) != it:
-                why = f"operator {it.node} ({it.name}) is another one in the other logs"
+            path = *scope, it.node
+            it = it._replace(path=path, address=".".join(map(str, path[len(root) :])))
+            it = it._replace(summary=summary_of(log, line, it, it.path in scopes, scope == root))
+            if found.setdefault((scope, it.node), it) != it:
+                why = f"operator {it.address} ({it.name}) is another one in the other logs"
                 raise Unsupported(log.path, line, why)
     return found
 
 
-def check_summary(log, line, it):
-    for source, target, *delay in it.summary:
-        if it.outputs > MOST_PORTS:
-            raise Unsupported(log.path, line, f"{it.name} has more than {MOST_PORTS} outputs")
+def summary_of(log, line, it, is_scope, is_root):
+    """The pairs of a summary, each with the rounds by which it delays."""
+    found = []
+    if it.outputs > MOST_PORTS:
+        raise Unsupported(log.path, line, f"{it.name} has more than {MOST_PORTS} outputs")
+    for source, target, delay in it.summary if not is_scope else ():
         if source >= it.inputs or target >= it.outputs:
-            raise Unreadable(log.path, line, f"the summary of {it.name} names a port that it does not have")
-        if delay != [NO_DELAY]:
+            why = f"the summary of {it.name} names a port that it does not have"
+            raise Unreadable(log.path, line, why)
+        rounds = rounds_of(json.loads(delay))
+        if rounds is None or rounds > (0 if is_root else MOST_DELAY):
             where = f"from input {source} to output {target}"
-            why = f"{it.name} (operator {it.node}) delays by {delay[0]} {where}"
+            why = f"{it.name} (operator {it.address}) delays by {delay} {where}"
             raise Unsupported(log.path, line, why)
+        found.append((source, target, rounds))
+    return tuple(found)
+
+
+def rounds_of(delay):
+    """By how many rounds of its loop a delay is: a number, or a list whose last is one; else None."""
+    outside, rounds = (delay[:-1], delay[-1]) if isinstance(delay, list) and delay else ([], delay)
+    return rounds if is_whole(rounds) and not any(outside) else None

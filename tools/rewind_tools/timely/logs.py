@@ -50,13 +50,16 @@ class NoEvent(Exception):
 
 
 class Operator(NamedTuple):
-    """An operator with its ports; `summary` has pairs of an input and an output, or triples with a delay."""
+    """An operator with its ports; `summary` has triples of an input, an output and a delay. `path` has its
+    scope and its node, `address` the nodes below the root in words."""
 
     node: int
     name: str
     inputs: int
     outputs: int
     summary: tuple
+    path: tuple = ()
+    address: str = ""
 
 
 class Channel(NamedTuple):
@@ -66,12 +69,14 @@ class Channel(NamedTuple):
 
 class Batch:
     """Progress that a worker sent, or received: entries [node, port, time, difference]. `log` and `line` say
-    where it stands, `seq_no` is its number there, `number` the one among the sender's, from 1."""
+    where it stands, `seq_no` is its number there, `index` the one among the sender's of its scope, from 1,
+    and `number` the one among all of them."""
 
-    __slots__ = ("log", "line", "ns", "is_send", "source", "seq_no", "number", "messages", "internal")
+    __slots__ = ("log", "line", "ns", "is_send", "source", "seq_no", "messages", "internal")
+    __slots__ += ("scope", "index", "number")
 
-    def __init__(self, log, line, value):
-        self.log, self.line, self.ns = log, line, value.get("ns")
+    def __init__(self, log, line, value, scope):
+        self.log, self.line, self.ns, self.scope, self.index = log, line, value.get("ns"), scope, None
         self.is_send, self.source, self.seq_no = value["is_send"], value["source"], value["seq_no"]
         self.number, self.messages, self.internal = None, value["messages"], value["internal"]
 
@@ -176,7 +181,8 @@ class Reader:
         if event == PROGRESS:
             check_batch(value)
             log.members += 0 if value.keys() <= PROGRESS_ALL else len(value.keys() - PROGRESS_ALL)
-            log.batches.append((number, scope_of(value), self.batch(number, value)))
+            scope = scope_of(value)
+            log.batches.append((number, scope, self.batch(number, value, scope)))
         elif event == OPERATES:
             log.operators.append((number, scope_of(value), operator_of(value)))
             log.members += len(value.keys() - OPERATES_HAS - ANY)
@@ -186,13 +192,14 @@ class Reader:
         else:
             log.others += 1
 
-    def batch(self, number, value):
-        batch, log = Batch(self.log, number, value), self.log
+    def batch(self, number, value, scope):
+        batch, log = Batch(self.log, number, value, scope), self.log
         if batch.is_send:
             log.worker = batch.source if log.worker is None else log.worker
             if log.worker != batch.source:
                 raise NoEvent(f"worker {batch.source} sends, and before it worker {log.worker}")
-        first = self.entries.setdefault((batch.source, batch.seq_no), (batch.messages, batch.internal))
+        key = scope, batch.source, batch.seq_no
+        first = self.entries.setdefault(key, (batch.messages, batch.internal))
         if first == (batch.messages, batch.internal):
             batch.messages, batch.internal = first
         return batch

@@ -19,11 +19,14 @@ import collections
 import heapq
 from typing import NamedTuple
 
+from rewind_tools.timely.dataflow import ENTRY, LEAVING, across, delayed, is_at_or_before
 from rewind_tools.timely.steps import MOST_EXACT, Steps
 
 # How often planning starts again at most.
 MOST_PLANS = 20
 FROM_START = None
+# A change that no step makes.
+OTHER = {("", 0): 1}
 
 
 class NoOrder(Exception):
@@ -32,6 +35,15 @@ class NoOrder(Exception):
     def __init__(self, waiting):
         super().__init__("no order of the batches was found")
         self.waiting = waiting
+
+
+class Unjoined(Exception):
+    """The batches of a worker's scopes do not fit together: a batch, its entry that nothing supports, and
+    the batches of other scopes beside it."""
+
+    def __init__(self, batch, point, others):
+        super().__init__("batches of different scopes do not fit together")
+        self.batch, self.point, self.others = batch, point, others
 
 
 class Again(Exception):
@@ -44,8 +56,9 @@ class Sent:
 
     __slots__ = ("worker", "batch", "hop", "since", "time", "left", "taken")
 
-    def __init__(self, worker, hop, since, time, count):
-        self.worker, self.batch, self.hop, self.since, self.time = worker, worker.batch, hop, since, time
+    def __init__(self, pending, hop, since, time, count):
+        self.worker, self.batch, self.hop = pending.worker, pending.batch, hop
+        self.since, self.time = since, time
         self.left, self.taken = count, {}
 
     def given(self, worker, steps):
@@ -69,8 +82,8 @@ class Held:
 
     __slots__ = ("counts", "times")
 
-    def __init__(self):
-        self.counts, self.times = {0: 1}, [0]
+    def __init__(self, first):
+        self.counts, self.times = {first: 1}, [first]
 
     def set(self, time, count):
         if count and time not in self.counts:
@@ -84,53 +97,82 @@ class Held:
         """A time at or before another at which one is held, the same if it can be; None if there is none."""
         if time in self.counts:
             return time
+        if type(time) is tuple:
+            return next((it for it in self.counts if is_at_or_before(it, time)), None)
         while self.times and self.times[0] not in self.counts:
             heapq.heappop(self.times)
         return self.times[0] if self.times and self.times[0] <= time else None
 
 
-class Worker:
-    """A worker on its way through its log."""
+class Pending:
+    """The next batch that a worker sends in a scope, as far as it is not explained."""
 
-    def __init__(self, index, events, outputs):
-        self.index, self.events, self.at = index, events, 0
-        self.sends = [batch for is_send, batch in events if is_send]
-        self.sent, self.got = 0, collections.Counter()
-        self.held = {it: Held() for it in outputs}
-        self.born, self.gone = {(it, 0): FROM_START for it in outputs}, {}
+    def __init__(self, worker, batches, scope):
+        self.worker, self.batches, self.scope, self.sent = worker, batches, scope, 0
         # what the model holds for the steps of one batch alone: messages that were taken, and capabilities
         self.taken, self.lent = {}, {}
         self.takes, self.makes, self.rises, self.falls = {}, {}, {}, ()
-        self.batch, self.has_stopped = None, False
-        # by point whether a batch makes the first capability there (1) or gives up the last (-1); and by its
-        # number what the model moves with it
-        self.turned, self.moved = {}, {}
-        # where a batch gives up more capabilities than there are, and how many these are
-        self.wrong, self.had = None, 0
+        self.batch = None
+        # by point whether a batch makes the first capability there (1) or gives up the last (-1)
+        self.turned = {}
+        # where it gives up more capabilities than there are
+        self.wrong = None
+
+
+class Worker:
+    """A worker on its way through its log. `next` has by scope what it sends next."""
+
+    def __init__(self, index, events, dataflow):
+        self.index, self.events, self.at = index, events, 0
+        self.sends = [batch for is_send, batch in events if is_send]
+        # how many batches it has sent, and received by sender; by sender and scope, too
+        self.sent, self.got, self.indexes = 0, collections.Counter(), collections.Counter()
+        # what it has received while a batch of another scope before that is missing
+        self.early = {}
+        self.held = {it: Held(first_time(it)) for it in dataflow.outputs}
+        self.born, self.gone = {(it, first_time(it)): FROM_START for it in dataflow.outputs}, {}
+        batches = {scope: [it for it in self.sends if it.scope == scope] for scope in dataflow.scopes}
+        self.next = [Pending(self, its, scope) for scope, its in batches.items()]
+        self.has_stopped, self.had = False, 0  # how many capabilities there were at a wrong entry
+        # by its number what the model moves with a batch
+        self.moved = {}
         # the trace, and what it has received since its last broadcast
         self.lines, self.late = [], []
+
+    @property
+    def is_done(self):
+        return self.sent == len(self.sends)
+
+    def pending(self):
+        """What is to be sent first."""
+        scope = self.sends[self.sent].scope
+        return next(it for it in self.next if it.scope == scope)
+
+
+def first_time(port):
+    """The time of the capability that an output has at the start."""
+    return (0,) * (port.depth + 1) if port.depth else 0
 
 
 class Planner:
     def __init__(self, dataflow, progress, report):
         self.dataflow, self.progress, self.report = dataflow, progress, report
-        self.steps = Steps(progress.times)
+        self.steps = Steps(progress.epochs)
         self.workers, self.pools, self.untold = [], {}, []
         self.many = {
             point
-            for changes in progress.changes
-            for change in changes.values()
-            for point, n in change.messages().items()
-            if abs(n) > MOST_EXACT
+            for change in progress.changes.values()
+            for counts in (change.takes, change.delivered)
+            for point, n in counts.items()
+            if n > MOST_EXACT
         }
         # by a batch and a message that it consumes, the batches that consume theirs before it; and whether
         # workers may have made more messages that no batch tells than are missing, and consumed as many
         self.after, self.is_generous = {}, False
-        self.totals, self.count = collections.Counter(), sum(map(len, progress.changes))
-        for changes in progress.changes:
-            for change in changes.values():
-                self.totals.update(change.makes)
-                self.totals.subtract(change.takes)
+        self.totals, self.count = collections.Counter(), len(progress.changes)
+        for change in progress.changes.values():
+            self.totals.update(change.delivered)
+            self.totals.subtract(change.takes)
 
     def plan(self):
         for self.is_generous in (False, True):
@@ -143,230 +185,290 @@ class Planner:
                     pass
                 except NoOrder:
                     break
-        raise NoOrder([it.batch for it in self.workers if it.takes])
+        raise NoOrder([it.batch for worker in self.workers for it in worker.next if it.takes])
 
     def plan_once(self):
         self.begin()
         while any([self.turn(it) for it in self.workers]) or self.unblock():
             self.report("batches explained", sum(it.sent for it in self.workers), self.count)
-        for it in self.workers:
-            if it.batch and not it.has_stopped:
-                self.explain(it)  # which may be wrong, too
+        left = [it for it in self.workers if not it.is_done and not it.has_stopped]
+        for it in left:
+            self.explain(it.pending())  # which may be wrong, too
+        if left and not any(it.has_stopped for it in self.workers):
+            self.stop_unjoined([it for worker in left for it in worker.next if it.batch])
 
     def begin(self):
-        events, outputs = self.progress.events, self.dataflow.outputs
-        self.workers = [Worker(index, its, outputs) for index, its in enumerate(events)]
+        self.workers = [Worker(index, its, self.dataflow) for index, its in enumerate(self.progress.events)]
         self.pools = {}
         self.missing = {point: -n for point, n in self.totals.items() if n < 0}
         self.surplus = {point: n for point, n in self.totals.items() if n > 0}
         self.untold = []
-        for it in self.workers:
-            self.next_batch(it)
+        for worker in self.workers:
+            for it in worker.next:
+                self.next_batch(it)
 
-    def next_batch(self, worker):
-        """Looks at what a worker's next batch says."""
-        worker.batch = worker.sends[worker.sent] if worker.sent < len(worker.sends) else None
-        worker.turned = {}
-        if worker.batch is None:
+    def next_batch(self, pending):
+        """Looks at what the next batch of a worker in a scope says."""
+        is_left = pending.sent < len(pending.batches)
+        pending.batch, pending.turned = (pending.batches[pending.sent] if is_left else None), {}
+        if pending.batch is None:
             return
-        change = self.progress.changes[worker.index][worker.batch.number]
-        worker.takes, worker.makes = dict(change.takes), dict(change.makes)
-        worker.rises, worker.falls = {}, []
+        change = self.progress.changes[pending.batch]
+        pending.takes, pending.makes = dict(change.takes), dict(change.makes)
+        pending.rises, pending.falls = {}, []
         for (output, time), n in change.capabilities.items():
-            held = worker.held[output].counts
+            held = pending.worker.held[output].counts
             if n < 0:
-                worker.falls.append((output, time, -n))
+                pending.falls.append((output, time, -n))
             elif time in held:
                 held[time] += n
             else:
-                worker.rises[output, time] = n
+                pending.rises[output, time] = n
 
     def turn(self, worker):
         """Plans what a worker does up to its next broadcast; whether there was anything."""
         if worker.has_stopped:
             return False
-        moved = self.make(worker, False)
+        moved = any([self.make(it, False) for it in worker.next])
         while worker.at < len(worker.events) and not worker.has_stopped:
             is_send, batch = worker.events[worker.at]
             if is_send:
-                return self.complete(worker) or moved
-            if self.workers[batch.source].sent < batch.number == worker.got[batch.source] + 1:
+                return self.complete(worker.pending()) or moved
+            number = self.number_of(worker, batch)
+            if self.workers[batch.source].sent < number and self.is_next(worker, batch):
                 return moved
-            self.receive(worker, batch)
+            self.receive(worker, batch, number)
             moved = True
         return moved
 
-    def complete(self, worker):
+    def number_of(self, worker, batch):
+        """The number of a batch that a worker received among all that its sender sent."""
+        sent = self.progress.by_index.get((batch.source, batch.scope, batch.index))
+        return sent.number if sent else len(self.workers[batch.source].sends) + 1
+
+    def is_next(self, worker, batch):
+        """Whether a batch is the next that a worker receives of its sender in its scope."""
+        return batch.index == worker.indexes[batch.source, batch.scope] + 1
+
+    def complete(self, pending):
         """Plans the rest of a worker's batch and its broadcast, if all messages that it consumes are
         there."""
-        if not self.explain(worker):
+        if not self.explain(pending):
             return False
-        if not worker.has_stopped:
-            self.broadcast(worker)
+        if not pending.worker.has_stopped:
+            self.broadcast(pending)
         return True
 
-    def explain(self, worker):
+    def explain(self, pending):
         """Plans the rest of the steps of a worker's batch, if all messages that it consumes are there."""
-        if not all(self.is_there(worker, *it) for it in worker.takes.items()):
+        if not all(self.is_there(pending, *it) for it in pending.takes.items()):
             return False
-        self.take(worker)
-        self.make(worker, False)
-        self.make(worker, True)
-        wrong = next(iter([*worker.makes, *worker.rises]), None)
-        if wrong or not self.finish(worker):
-            self.stop(worker, wrong or worker.wrong)
+        self.take(pending)
+        self.make(pending, False)
+        self.make(pending, True)
+        wrong = next(iter([*pending.makes, *pending.rises]), None)
+        if wrong or not self.finish(pending):
+            self.stop(pending, wrong or pending.wrong)
         return True
 
-    def broadcast(self, worker):
-        batch, change = worker.batch, self.model_change(worker)
-        worker.lines += worker.late
-        worker.lines.append(self.steps.broadcast(worker, batch, change))
-        worker.late = []
+    def broadcast(self, pending):
+        worker, batch, change = pending.worker, pending.batch, self.model_change(pending)
         worker.at += 1
         worker.sent += 1
+        pending.sent += 1
+        step = self.steps.broadcast(worker, batch, worker.sent + batch.index - pending.sent, change)
+        worker.lines += [*worker.late, step]
+        worker.late = []
         if self.progress.differing:
             worker.moved[worker.sent] = change
-        worker.has_stopped = batch.number != worker.sent
-        self.next_batch(worker)
+        worker.has_stopped = batch.index != pending.sent
+        step.wanted = batch.seq_no - batch.index + pending.sent
+        self.next_batch(pending)
 
-    def receive(self, worker, batch):
-        change = None
-        apart = self.progress.differing.get(batch)
-        if apart:
-            change = collections.Counter(self.workers[batch.source].moved[batch.number])
-            change.update({self.point(*it): n for it, n in apart.items()})
-        worker.late.append(self.steps.receive(worker, batch, change))
+    def receive(self, worker, batch, number):
+        """Plans that a worker receives a batch: once it has all before it, of other scopes as well."""
+        apart, key = self.progress.differing.get(batch), (batch.source, batch.scope)
         worker.at += 1
-        worker.got[batch.source] += 1
-        worker.has_stopped = bool(apart) or batch.number != worker.got[batch.source]
+        worker.indexes[key] += 1
+        lost = batch.index - worker.indexes[key]
+        worker.has_stopped = bool(apart) or bool(lost)
+        if worker.has_stopped:
+            number = worker.got[batch.source] + 1 + lost
+            step = self.steps.receive(worker, batch, number, self.changed(batch, apart) if apart else None)
+            step.wanted = batch.seq_no - lost
+            worker.late.append(step)
+            return
+        worker.early[batch.source, number] = batch
+        while (batch.source, worker.got[batch.source] + 1) in worker.early:
+            worker.got[batch.source] += 1
+            number = worker.got[batch.source]
+            its = worker.early.pop((batch.source, number))
+            worker.late.append(self.steps.receive(worker, its, number, None))
+
+    def changed(self, batch, apart):
+        """The change of a batch that was received as another than it was sent."""
+        moved = self.workers[batch.source].moved.get(self.number_of(None, batch))
+        if moved is None:
+            return OTHER
+        change = collections.Counter(moved)
+        change.update({self.point(*it): n for it, n in apart.items()})
+        return change
 
     def point(self, port, time):
         """The location of an entry, with its time."""
         return (port.vertex if port.is_output else self.dataflow.into[port][0].edge), time
 
-    def model_change(self, worker):
+    def model_change(self, pending):
         """What the model moves with a worker's batch: a capability counts once, however many hold it. None,
-        if its messages are not followed one by one."""
-        messages = self.progress.changes[worker.index][worker.batch.number].messages()
+        if its messages are not followed one by one, or those of other scopes beside them."""
+        messages = self.progress.changes[pending.batch].messages()
+        if self.dataflow.is_nested:
+            return None
         if any(point in self.many or len(self.dataflow.into[point[0]]) > 1 for point in messages):
             return None
         change = {self.point(*it): n for it, n in messages.items()}
-        change.update({self.point(*it): n for it, n in worker.turned.items()})
+        change.update({self.point(*it): n for it, n in pending.turned.items()})
         return change
 
-    def make(self, worker, is_far):
-        """Plans what a worker produces, and its new capabilities: from capabilities at the same operator,
-        or, if `is_far`, from others that lead there. Whether there were any."""
+    def make(self, pending, is_far):
+        """Plans what a batch of a worker produces, and its new capabilities: from capabilities at the same
+        operator, or, if `is_far`, from others that lead there. Whether there were any."""
         moved = False
-        for point in list(worker.rises):
-            moved |= self.raise_to(worker, *point, is_far)
-        for point in list(worker.makes):
-            moved |= self.produce(worker, *point, is_far)
+        for point in list(pending.rises):
+            moved |= self.raise_to(pending, *point, is_far)
+        for point in list(pending.makes):
+            moved |= self.produce(pending, *point, is_far)
         return moved
 
-    def raise_to(self, worker, output, time, is_far):
-        since = self.capability(worker, output, time, is_far)
+    def raise_to(self, pending, output, time, is_far):
+        since, worker = self.capability(pending, output, time, is_far), pending.worker
         if since is None:
             return False
         if since != time:
-            worker.lines.append(self.steps.keep(worker, output, since, time, (output, time)))
-        worker.lent.get(output, set()).discard(time)
-        worker.held[output].set(time, worker.rises.pop((output, time)))
-        worker.born[output, time], worker.turned[output, time] = worker.batch, 1
+            worker.lines.append(self.steps.keep(pending, output, since, time, (output, time)))
+        pending.lent.get(output, set()).discard(time)
+        worker.held[output].set(time, pending.rises.pop((output, time)))
+        worker.born[output, time], pending.turned[output, time] = pending.batch, 1
         return True
 
-    def produce(self, worker, target, time, is_far):
+    def produce(self, pending, target, time, is_far):
         for hop in self.dataflow.into[target]:
-            since = self.capability(worker, hop.source, time, is_far)
+            since = self.capability(pending, hop.source, time, is_far)
             if since is not None:
-                self.send(worker, hop, since, time, worker.makes.pop((target, time)))
+                self.send(pending, hop, since, time, pending.makes.pop((target, time)))
                 return True
         return False
 
-    def send(self, worker, hop, since, time, count):
-        sent = Sent(worker, hop, since, time, count)
-        worker.lines.append(sent)
+    def send(self, pending, hop, since, time, count):
+        if hop.target.side == LEAVING:
+            self.send_out(pending, hop, since, time, count)
+            return
+        sent = Sent(pending, hop, since, time, count)
+        pending.worker.lines.append(sent)
         self.pools.setdefault((hop.target, time), []).append(sent)
 
-    def capability(self, worker, output, time, is_far):
+    def send_out(self, pending, hop, since, time, count):
+        """Plans that messages leave a scope: one for all of them, from which they are sent outside."""
+        worker, inside, outside = pending.worker, hop.target, hop.target.across
+        later = across(inside, time)
+        worker.lines += self.steps.hop(pending, hop, since, time)
+        worker.lines += self.steps.cross(pending, inside.edges[0], time, later)
+        for on in outside.edges:
+            self.send(pending, on, later, later, count)
+        worker.lines.append(self.steps.release(pending, outside, later))
+
+    def capability(self, pending, output, time, is_far):
         """The time of a capability of a worker at an output, at or before a time. If it has none, messages
         lead to one at that time, if they can; else None."""
         for way in self.dataflow.ways(output):
             if not is_far and way.on and way.on.hop:
                 return None
-            since = self.there(worker, way.source, time)
+            start = delayed(time, -way.delay)
+            since = None if start is None else self.there(pending, way.source, start)
             if since is None:
                 continue
-            for hop in way.hops():
-                worker.lines += self.steps.hop(worker, hop, since, time)
-                since = time
-                there = worker.lent if hop.target.is_output else worker.taken
-                there.setdefault(hop.target, set()).add(time)
+            for hop, rest in way.hops():
+                its = delayed(time, -rest)
+                pending.worker.lines += self.steps.hop(pending, hop, since, its)
+                since, there = its, pending.lent if hop.target.is_output else pending.taken
+                there.setdefault(hop.target, set()).add(its)
             return since
         return None
 
-    def there(self, worker, port, time):
+    def there(self, pending, port, time):
         """A time at or before another at which a worker has a capability at a port, or has taken a
         message."""
-        if port.is_output:
-            held = worker.held[port].at_or_before(time)
+        if port in pending.worker.held:
+            held = pending.worker.held[port].at_or_before(time)
             if held is not None:
                 return held
-        times = (worker.lent if port.is_output else worker.taken).get(port)
-        return min((it for it in times if it <= time), default=None) if times else None
+        times = (pending.lent if port.is_output else pending.taken).get(port)
+        return min((it for it in times if is_at_or_before(it, time)), default=None) if times else None
 
-    def is_there(self, worker, point, count):
+    def is_there(self, pending, point, count):
         """Whether so many messages can be taken."""
         there = sum(it.left for it in self.pools.get(point, ()))
-        return there >= count and (not self.after or self.is_turn(worker, point))
+        return there >= count and (not self.after or self.is_turn(pending, point))
 
-    def is_turn(self, worker, point):
+    def is_turn(self, pending, point):
         """Whether the batches that are to take such a message before this one have done so."""
-        before = self.after.get((worker.index, worker.sent, point), ())
-        others = ((self.workers[index], sent) for index, sent in before)
+        before = self.after.get((self.key(pending), point), ())
+        others = ((self.workers[index].next[at], sent) for index, at, sent in before)
         return all(it.sent > sent or it.sent == sent and point not in it.takes for it, sent in others)
 
-    def take(self, worker):
+    def key(self, pending):
+        """A batch that is pending, in each plan the same: the worker, the scope's place, and its place."""
+        return pending.worker.index, pending.worker.next.index(pending), pending.sent
+
+    def take(self, pending):
         """Takes messages that the batch consumes and that are there; whether there were any."""
         moved = False
-        for point, count in list(worker.takes.items()):
-            if self.is_there(worker, point, 1):
+        for point, count in list(pending.takes.items()):
+            if self.is_there(pending, point, 1):
                 moved = True
-                left = self.take_from(worker, self.pools[point], count)
-                worker.takes[point] = left
+                left = self.take_from(pending, self.pools[point], count)
+                pending.takes[point] = left
                 if not left:
-                    del worker.takes[point]
+                    del pending.takes[point]
         return moved
 
-    def take_from(self, worker, pool, count):
+    def take_from(self, pending, pool, count):
         """Takes messages of a pool, those of the worker itself first; how many are wanting."""
+        worker = pending.worker
         for sent in sorted(pool, key=lambda it: it.worker is not worker) if len(pool) > 1 else pool:
-            count -= self.take_some(worker, sent, count)
+            count -= self.take_some(pending, sent, count)
         pool[:] = [it for it in pool if it.left]
         return count
 
-    def take_some(self, worker, sent, count):
+    def take_some(self, pending, sent, count):
         """Takes messages of a Sent, at most so many; how many it took."""
         n = min(count, sent.left)
         if not n:
             return 0
-        point = sent.hop.target, sent.time
+        worker, target = pending.worker, sent.hop.target
+        point = target, sent.time
         sent.left -= n
         records = 1 if point in self.many else n
         before, record = sent.given(worker, self.steps)
         sent.taken[worker.index] = before + records, record
-        worker.lines += self.steps.takes(worker, sent.hop, record, point, records)
-        worker.taken.setdefault(sent.hop.target, set()).add(sent.time)
+        worker.lines += self.steps.takes(pending, record, point, records)
+        if target.side == ENTRY:
+            inside = across(target, sent.time)
+            worker.lines += self.steps.cross(pending, target.edges[0], sent.time, inside, records)
+            pending.lent.setdefault(target.across, set()).add(inside)
+        else:
+            pending.taken.setdefault(target, set()).add(sent.time)
         return n
 
-    def finish(self, worker):
+    def finish(self, pending):
         """Plans that a worker gives up what its batch says is gone, and what was there for its steps alone;
         whether it has it."""
-        for there in (worker.taken, worker.lent):
+        worker = pending.worker
+        for there in (pending.taken, pending.lent):
             for port, times in there.items():
-                worker.lines += [self.steps.release(worker, port, time) for time in times]
+                worker.lines += [self.steps.release(pending, port, time) for time in times]
             there.clear()
-        for output, time, n in worker.falls:
+        for output, time, n in pending.falls:
             held = worker.held[output]
             worker.had = held.counts.get(time, 0)
             if n < worker.had:
@@ -374,29 +476,45 @@ class Planner:
                 continue
             if worker.had:
                 held.set(time, 0)
-                worker.lines.append(self.steps.release(worker, output, time))
-                worker.turned[output, time], worker.gone[output, time] = -1, worker.batch
+                worker.lines.append(self.steps.release(pending, output, time))
+                pending.turned[output, time], worker.gone[output, time] = -1, pending.batch
             if n > worker.had:
-                worker.wrong = output, time
+                pending.wrong = output, time
                 return False
         return True
 
-    def stop(self, worker, point):
+    def stop(self, pending, point):
         """Plans a step that no run can have, for an entry that nothing supports: the program refuses it."""
-        port, time = point
+        (port, time), worker = point, pending.worker
+        if self.dataflow.is_nested and point != pending.wrong:
+            raise Unjoined(pending.batch, point, self.other_scopes(worker, pending))
         if port.is_output:
-            step = self.steps.release(worker, port, time, point)
+            step = self.steps.release(pending, port, time, point)
         else:
             hop = self.dataflow.into[port][0]
             record = self.steps.record(hop, worker.index, time)
-            step = self.steps.send(worker, hop, time, record)
+            step = self.steps.send(pending, hop, time, record)
             step.entry = point
         worker.lines.append(step)
         worker.has_stopped = True
 
+    def stop_unjoined(self, left):
+        """Says which of the batches that are left has an entry that nothing explains."""
+        left.sort(key=lambda it: bool(it.takes))
+        for its in ("makes", "rises", "takes"):
+            for it in left:
+                for point in getattr(it, its):
+                    raise Unjoined(it.batch, point, self.other_scopes(it.worker, it))
+
+    def other_scopes(self, worker, pending):
+        """The batches of other scopes that a worker sends next, or sent last."""
+        others = (it for it in worker.next if it is not pending and it.batches)
+        return [it.batches[min(it.sent, len(it.batches) - 1)] for it in others]
+
     def unblock(self):
         """Helps workers that all wait; whether any can go on."""
-        blocked = [it for it in self.workers if it.batch and not it.has_stopped]
+        blocked = [it for it in self.workers if not it.is_done and not it.has_stopped]
+        blocked = [it for worker in blocked for it in worker.next if it.batch]
         wanted = {point for it in blocked for point in it.takes}
         blocked.sort(key=lambda it: wanted.isdisjoint(it.makes))
         for step in (self.take, lambda it: self.make(it, True), self.add_untold):
@@ -412,43 +530,47 @@ class Planner:
 
     def take_otherwise(self, waiting):
         """Starts again, so that a worker that waits takes a message before another that took one."""
-        for worker in waiting:
-            for point in worker.takes:
-                own = worker.index, worker.sent
+        for pending in waiting:
+            for point in pending.takes:
+                own = self.key(pending)
                 for other in self.takers(point):
-                    its = self.after.setdefault((*other, point), set())
+                    its = self.after.setdefault((other, point), set())
                     if other != own and own not in its:
                         its.add(own)
                         raise Again
 
     def takers(self, point):
-        """The batches that took a message, as workers and how many batches these sent before, the last
-        first."""
-        found = []
-        for worker in self.workers:
-            changes = self.progress.changes[worker.index]
-            sent = enumerate(worker.sends[: worker.sent])
-            found += [(worker.index, at) for at, it in sent if point in changes[it.number].takes]
-        return sorted(found, key=lambda it: -it[1])
+        """The batches that took a message, as workers, places of scopes, and how many batches were sent
+        before, the last first."""
+        changes = self.progress.changes
+        found = [
+            (worker.index, at, sent)
+            for worker in self.workers
+            for at, pending in enumerate(worker.next)
+            for sent, it in enumerate(pending.batches[: pending.sent])
+            if point in changes[it].takes
+        ]
+        return sorted(found, key=lambda it: -it[2])
 
-    def add_untold(self, worker):
+    def add_untold(self, pending):
         """Has another worker make messages that this one consumes and no batch says were produced; whether
         there are any."""
-        for point, count in worker.takes.items():
+        for point, count in pending.takes.items():
             n = count if self.is_generous else min(count, self.missing.get(point, 0))
-            makers = [it for it in self.workers if n and self.can_have_made(it, worker, point)]
+            makers = [it for it in self.workers if n and self.can_have_made(it, pending, point)]
             if any(self.make_untold(it, point, n) for it in makers):
                 self.missing[point] = self.missing.get(point, 0) - n
-                self.untold.append(Untold(worker.batch, *point, n, makers))
+                self.untold.append(Untold(pending.batch, *point, n, makers))
                 return True
         return False
 
     def can_have_made(self, worker, other, point):
         """Whether a worker can have made a message that another consumed, and have sent nothing since."""
-        if worker is other or worker.batch is not None or worker.has_stopped:
+        if worker is other.worker or not worker.is_done or worker.has_stopped:
             return False
-        known = [it for is_send, it in self.before_last_send(worker) if it.source == other.index]
-        if any(it.number >= other.batch.number for it in known):
+        its = other.batch
+        known = [it for _, it in self.before_last_send(worker) if it.source == its.source]
+        if any(it.scope == its.scope and it.index >= its.index for it in known):
             return False
         return any(self.maker_ways(worker, hop, point[1]) for hop in self.dataflow.into[point[0]])
 
@@ -462,10 +584,13 @@ class Planner:
         have taken a message that no batch says was consumed."""
         found = []
         for way in self.dataflow.ways(hop.source):
-            since = self.there(worker, way.source, time)
+            start = delayed(time, -way.delay)
+            if start is None:
+                continue
+            since = self.there(worker.next[0], way.source, start)
             if since is not None:
                 found.append((way.source, since, None))
-            for sent in self.spare(way.source, time):
+            for sent in self.spare(way.source, start):
                 found.append((way.source, sent.time, sent))
         return found
 
@@ -474,31 +599,33 @@ class Planner:
         return [
             sent
             for (its, at), pool in self.pools.items()
-            if its is port and at <= time and self.surplus.get((its, at))
+            if its is port and is_at_or_before(at, time) and self.surplus.get((its, at))
             for sent in pool
             if sent.left
         ]
 
     def make_untold(self, worker, point, count):
         """Plans that a worker makes messages after its last batch."""
-        target, time = point
+        (target, time), pending = point, worker.next[0]
         for hop in self.dataflow.into[target]:
             ways = self.maker_ways(worker, hop, time)
             if ways and ways[0][2]:
-                self.surplus[ways[0][0], ways[0][1]] -= self.take_some(worker, ways[0][2], 1)
+                self.surplus[ways[0][0], ways[0][1]] -= self.take_some(pending, ways[0][2], 1)
             if ways:
-                self.send(worker, hop, self.capability(worker, hop.source, time, True), time, count)
+                self.send(pending, hop, self.capability(pending, hop.source, time, True), time, count)
                 return True
         return False
 
-    def stop_at_take(self, worker):
+    def stop_at_take(self, pending):
         """Plans that a worker takes a message that no worker can have made, if there is one: the program
         refuses that."""
-        point = next((it for it in worker.takes if self.missing.get(it, 0) > 0), None)
+        point = next((it for it in pending.takes if self.missing.get(it, 0) > 0), None)
+        if point and self.dataflow.is_nested:
+            raise Unjoined(pending.batch, point, self.other_scopes(pending.worker, pending))
         if point:
-            hop = self.dataflow.into[point[0]][0]
+            hop, worker = self.dataflow.into[point[0]][0], pending.worker
             record = self.steps.record(hop, worker.index, point[1])
-            worker.lines += self.steps.takes(worker, hop, record, point)
+            worker.lines += self.steps.takes(pending, record, point)
             worker.has_stopped = True
         return bool(point)
 

@@ -15,8 +15,8 @@ from rewind_tools.following.program import GraphRefused, Program
 from rewind_tools.timely import logs
 from rewind_tools.timely.batches import Progress
 from rewind_tools.timely.dataflow import Dataflow
-from rewind_tools.timely.planning import NoOrder, Planner
-from rewind_tools.timely.words import Words
+from rewind_tools.timely.planning import NoOrder, Planner, Unjoined
+from rewind_tools.timely.words import Words, unjoined_words
 
 
 # How many seconds pass before it is said how far the work is; then it is said after that many times as long.
@@ -47,7 +47,7 @@ class Run:
         self.program = self.opened(on_note)
         self.program.progress = lambda _, done, count: self.report("steps executed", done, count)
         self.epochs = Epochs()
-        self.epochs.found |= self.progress.times
+        self.epochs.found |= self.progress.epochs
         self.epochs.close()
 
     def opened(self, on_note):
@@ -69,6 +69,8 @@ class Run:
         except NoOrder as why:
             batch = why.waiting[0]
             raise logs.Unsupported(batch.log.path, batch.line, str(why)) from why
+        except Unjoined as why:
+            raise logs.Unsupported(why.batch.log.path, why.batch.line, unjoined_words(why)) from why
         lines = [self.planner.lines(it) for it in self.planner.workers]
         merging = Merging(lines, Places(self.program.graph, len(lines)))
         self.follower = Follower(self.program, merging)

@@ -9,77 +9,106 @@
 A Step is a Line of a trace whose number is its batch's line; `entry` is the point that it is for. Every
 message has the value 0."""
 from rewind_tools.following.reading import NOTHING, NOTHING_OWN, Line
+from rewind_tools.timely.dataflow import delayed
 
 # How many values a send has at most; and how many messages of one entry are followed one by one.
 MOST_VALUES, MOST_EXACT = 1_024, 64
 
 
 class Step(Line):
-    __slots__ = ("batch", "entry")
+    __slots__ = ("batch", "entry", "wanted")
 
-    def __init__(self, worker, word, text, entry):
+    def __init__(self, worker, batch, word, text, entry):
         self.worker, self.number, self.word, self.text = worker.index, 0, word, text
         self.needs, self.makes, self.own = None, NOTHING, NOTHING_OWN
-        self.batch, self.entry = worker.batch, entry
+        self.batch, self.entry = batch, entry
 
 
 class Steps:
     """Makes Steps, which share what is equal, since there may be a million."""
 
-    def __init__(self, times):
-        self.rank = {time: rank for rank, time in enumerate(sorted(times))}
-        self.stamps = {time: (rank,) for time, rank in self.rank.items()}
+    def __init__(self, epochs):
+        self.rank = {epoch: rank for rank, epoch in enumerate(sorted(epochs))}
+        self.stamps = {epoch: (rank,) for epoch, rank in self.rank.items()}
+        self.lists = {epoch: b"%d" % rank for epoch, rank in self.rank.items()}
         self.texts, self.owns = {}, {}
+
+    def stamp(self, time):
+        """A time with its epoch's rank."""
+        if time not in self.stamps:
+            self.stamps[time] = (self.rank[time[0]], *time[1:])
+            self.lists[time] = ",".join(map(str, self.stamps[time])).encode()
+        return self.stamps[time]
+
+    def list(self, time):
+        """The same as what stands in the brackets of a line."""
+        self.stamp(time)
+        return self.lists[time]
 
     def record(self, hop, to, time):
         """A message on a channel, as a follower knows it."""
-        return hop.edge, to, self.stamps[time], 0
+        return hop.edge, to, self.stamp(time), 0
 
-    def takes(self, worker, hop, record, entry, count=1):
+    def takes(self, pending, record, entry, count=1):
         """Steps that take messages which are one record."""
-        text = b'{"do":"take","p":%d,"edge":"%s","time":[%d],"value":0}'
-        text %= worker.index, hop.edge.encode(), record[2][0]
-        made = [Step(worker, "take", text, entry) for _ in range(count)]
+        edge, _, stamp, _ = record
+        text = b'{"do":"take","p":%d,"edge":"%s","time":[%s],"value":0}'
+        text %= pending.worker.index, edge.encode(), ",".join(map(str, stamp)).encode()
+        made = [Step(pending.worker, pending.batch, "take", text, entry) for _ in range(count)]
         for it in made:
             it.needs = record
         return made
 
-    def hop(self, worker, hop, since, time):
-        """A message from a port to the next one of the same worker, from a capability at `since`: it is sent
-        and taken."""
-        record = self.record(hop, worker.index, time)
-        return [self.send(worker, hop, since, record), *self.takes(worker, hop, record, None)]
+    def hop(self, pending, hop, since, time):
+        """A message from a port to the next one of the same worker, where it arrives at a time: it is sent
+        from a capability at `since`, taken, and taken again after each round by which the edge delays it."""
+        p, rounds = pending.worker.index, len(hop.rounds)
+        record = self.record(hop, p, delayed(time, -rounds))
+        made = [self.send(pending, hop, since, record), *self.takes(pending, record, None)]
+        for number, (_, edge) in enumerate(hop.rounds, 1):
+            record = edge, p, self.stamp(delayed(time, number - rounds)), 0
+            made += self.takes(pending, record, None)
+        return made
 
-    def send(self, worker, hop, since, record, count=1):
-        _, to, (rank,), _ = record
-        text = b'{"do":"send","p":%d,"vertex":"%s","time":[%d],"port":%d,"values":[%s],"at":[%d],"dest":%d}'
-        its = worker.index, hop.source.vertex.encode(), self.rank[since], hop.port
-        step = Step(worker, "send", text % (*its, b",".join([b"0"] * count), rank, to), None)
+    def cross(self, pending, hop, time, later, count=1):
+        """Messages that were taken at a scope's border cross it: they are taken on the other side."""
+        record, made = (hop.edge, pending.worker.index, self.stamp(later), 0), []
+        if hop.source.op == "opaque":
+            made = [self.send(pending, hop, time, record, count), self.release(pending, hop.source, time)]
+        return made + self.takes(pending, record, None, count)
+
+    def send(self, pending, hop, since, record, count=1):
+        _, to, stamp, _ = record
+        text = b'{"do":"send","p":%d,"vertex":"%s","time":[%s],"port":%d,"values":[%s],"at":[%s],"dest":%d}'
+        its = pending.worker.index, hop.source.vertex.encode(), self.list(since), hop.port
+        at = ",".join(map(str, stamp)).encode()
+        text %= *its, b",".join([b"0"] * count), at, to
+        step = Step(pending.worker, pending.batch, "send", text, None)
         step.makes = (record,) * count
         return step
 
-    def release(self, worker, port, time, entry=None):
-        text = b'{"do":"release","p":%d,"vertex":"%s","time":[%d]}'
-        its = worker.index, port.vertex.encode(), self.rank[time]
-        return Step(worker, "release", text % its, entry)
+    def release(self, pending, port, time, entry=None):
+        text = b'{"do":"release","p":%d,"vertex":"%s","time":[%s]}'
+        its = pending.worker.index, port.vertex.encode(), self.list(time)
+        return Step(pending.worker, pending.batch, "release", text % its, entry)
 
-    def keep(self, worker, port, since, time, entry):
+    def keep(self, pending, port, since, time, entry):
         """A later capability beside one that is held."""
-        text = b'{"do":"release","p":%d,"vertex":"%s","time":[%d],"to":[%d],"keep":true}'
-        its = worker.index, port.vertex.encode(), self.rank[since], self.rank[time]
-        return Step(worker, "release", text % its, entry)
+        text = b'{"do":"release","p":%d,"vertex":"%s","time":[%s],"to":[%s],"keep":true}'
+        its = pending.worker.index, port.vertex.encode(), self.list(since), self.list(time)
+        return Step(pending.worker, pending.batch, "release", text % its, entry)
 
-    def broadcast(self, worker, batch, change):
+    def broadcast(self, worker, batch, number, change):
         text = b'{"do":"broadcast","p":%d}' % worker.index
-        step = Step(worker, "broadcast", self.texts.setdefault(text, text), None)
-        step.own = self.own(batch.number, change)
+        step = Step(worker, batch, "broadcast", self.texts.setdefault(text, text), None)
+        step.own = self.own(number, change)
         return step
 
-    def receive(self, worker, batch, change):
+    def receive(self, worker, batch, number, change):
         text = b'{"do":"receive","from":%d,"to":%d}' % (batch.source, worker.index)
-        step = Step(worker, "receive", self.texts.setdefault(text, text), None)
-        step.batch, step.needs = batch, batch.source
-        step.own = self.own(batch.number, change)
+        step = Step(worker, batch, "receive", self.texts.setdefault(text, text), None)
+        step.needs = batch.source
+        step.own = self.own(number, change)
         return step
 
     def own(self, number, change):
@@ -88,7 +117,7 @@ class Steps:
             if number not in self.owns:
                 self.owns[number] = NOTHING_OWN._replace(number=number)
             return self.owns[number]
-        ranked = {(name, self.stamps[time]): n for (name, time), n in change.items()}
+        ranked = {(name, self.stamp(time)): n for (name, time), n in change.items()}
         return NOTHING_OWN._replace(number=number, change=ranked)
 
     def sent(self, sent, are_many):
@@ -100,6 +129,6 @@ class Steps:
         for count, record in sent.taken.values():
             for begin in range(0, count, MOST_VALUES):
                 n = min(count - begin, MOST_VALUES)
-                made.append(self.send(sent.worker, sent.hop, sent.since, record, n))
-                made[-1].batch, made[-1].entry = sent.batch, entry
+                made.append(self.send(sent, sent.hop, sent.since, record, n))
+                made[-1].entry = entry
         return made

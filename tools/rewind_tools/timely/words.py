@@ -6,15 +6,16 @@
 Workers, operators, ports, times and batches have the names and numbers that they have in the logs."""
 from rewind_tools.following.checking import MOST_STEPS
 from rewind_tools.following.endings import DIFFERS, FOLLOWED, INCOMPLETE, REFUSED, TOO_LONG
-from rewind_tools.telling.commands import FIRM, MOST, at, counted, processors, some_of
+from rewind_tools.telling.commands import FIRM, MOST, at, counted, processors, some_of, time_in
 from rewind_tools.telling.forms import listed
 from rewind_tools.telling.printing import BOLD, RED
-from rewind_tools.timely.answering import CAPABILITY, HANG, MESSAGE, last_batch, silent_first, unheard_of
+from rewind_tools.timely.answering import CAPABILITY, HANG, MESSAGE, last_batch, numbers_of, silent_first
+from rewind_tools.timely.answering import unheard_of
 
 
 def there(port, time):
     """A port and a time, which a line does not part."""
-    return at(port.words.replace(" ", FIRM), [time])
+    return at(port.words.replace(" ", FIRM), numbers_of(time))
 
 
 def place(log, line):
@@ -38,6 +39,13 @@ def capabilities(it):
 
 def workers(numbers):
     return processors(numbers).replace("processor", "worker")
+
+
+def unjoined_words(why):
+    """Why batches of different scopes do not fit together."""
+    others = some_of(f"{place(it.log, it.line)} (scope {list(it.scope)})" for it in why.others)
+    what = f"nothing explains the entry at {there(*why.point)}"
+    return f"{what}; the worker's batches in other scopes: {others}"
 
 
 def verb(count):
@@ -109,6 +117,9 @@ class Words:
         if it.stop != "rest":
             why = "not all that is under way could arrive, so some of this may merely follow from the rest"
             said.append((why, 4, RED))
+        if any(reason.port.depth > 1 for reason in it.reasons):
+            why = "times with two counters are compared lexicographically here, in timely by components"
+            said.append((f"{why}: there less may hold this back", 4, ""))
         return said + self.reasons(it.reasons)
 
     def reasons(self, reasons):
@@ -220,8 +231,7 @@ class Words:
         """That a batch's number is not the next, or the entries of a batch that are not as they were
         sent."""
         if "number" in it.reply:
-            wanted = it.reply["number"] - 1 + self.run.progress.firsts[batch.source]
-            return f"its seq_no is {batch.seq_no}, and {wanted} is the next of worker {batch.source}"
+            return f"its seq_no is {batch.seq_no}, and {it.line.wanted} is the next of worker {batch.source}"
         apart = self.run.progress.differing.get(batch, {})
         if not apart:
             return f"the program says {it.reply}"
@@ -231,14 +241,14 @@ class Words:
     def unsupported(self, it, batch):
         """The entry that nothing supports."""
         worker, (port, time) = it.line.worker, it.line.entry
-        change = self.run.progress.changes[batch.source][batch.number]
+        change = self.run.progress.changes[batch]
         n = (change.capabilities if port.is_output else change.messages()).get((port, time), 0)
-        entry = f"[{port.operator.node}, {port.number}, [{time}], {n}]"
+        entry = f"[{port.operator.node}, {port.number}, {numbers_of(time)}, {n}]"
         if not port.is_output and n < 0:
             what = "consumes what no worker can have made: each has sent its progress since"
         elif not port.is_output:
             source = " or ".join(hop.source.words for hop in self.dataflow.into[port])
-            what = f"sends without a capability of {source} at or before ({time})"
+            what = f"sends without a capability of {source} at or before {time_in(numbers_of(time))}"
         elif n < 0:
             what = f"gives up {-n} there, and holds {self.planner.workers[worker].had}"
         else:
