@@ -13,6 +13,7 @@ Ctrl-C at the terminal reaches the tool alone; and it ends with the tool, howeve
 may kill it: whoever waits for a reply then gets Ended."""
 import contextlib
 import ctypes
+import itertools
 import json
 import os
 import signal
@@ -95,10 +96,10 @@ class Session:
         text = b"".join(it + b"\n" for it in texts)
         if len(text) <= PIPE_BYTES:
             self.write(text)
-            return [self.read() for _ in texts]
+            return self.read(len(texts))
         writer = threading.Thread(target=self.write, args=[text], daemon=True)
         writer.start()
-        replies = [self.read() for _ in texts]
+        replies = self.read(len(texts))
         writer.join()
         return replies
 
@@ -109,11 +110,12 @@ class Session:
         except (OSError, ValueError):
             pass  # that the program has ended is noticed where its reply is read
 
-    def read(self):
-        line = self.process.stdout.readline()
-        if not line.endswith(b"\n"):
+    def read(self, count):
+        """The next replies, as lines."""
+        lines = list(itertools.islice(self.process.stdout, count))
+        if len(lines) < count or not all(it.endswith(b"\n") for it in lines[-1:]):
             raise Ended(self.end_words())
-        return line
+        return lines
 
     def said(self):
         """What the program has written to standard error so far, without the notes of ./rewind."""

@@ -18,11 +18,12 @@ from typing import NamedTuple
 
 from rewind_tools.following.comparing import change_of, different_members
 from rewind_tools.following.merging import LAST, PASSED, STEPS, is_long, may_be_nothing
-from rewind_tools.following.reading import compact, is_unread, of_nobody
+from rewind_tools.following.reading import NOTHING_OWN, compact, is_unread, of_nobody
 from rewind_tools.following.traces import LONGEST
 from rewind_tools.tool import Fault
 
 MOST_STEPS = 1_000_000
+DONE = b'{"at":%d,"kept":%d,"ok":true}\n'
 NO_RECORD, NOTHING_TO_SEND, QUEUE_EMPTY, QUEUE_FULL = 8, 15, 17, 18
 # The refusals that another worker's line may end; those that are no refusals of the protocol.
 WAITING, NO_MEMORY = (NO_RECORD, QUEUE_EMPTY, QUEUE_FULL), (19, 29)
@@ -78,6 +79,9 @@ class Follower:
         replies = self.program.ask(texts)
         begin = 0
         for at, (item, width) in enumerate(zip(batch.items, widths)):
+            if width == 1 and self.is_plain(item, replies[begin]):
+                begin += 1
+                continue
             outcome = self.judged(item, texts[begin : begin + width], replies[begin : begin + width])
             if outcome:
                 steps = [it for it in replies[begin:] if it.startswith(b'{"at":')]
@@ -91,6 +95,11 @@ class Follower:
         texts, widths, position = [], [], self.position
         for item in batch.items:
             line, count = item.line, len(texts)
+            if item.kind != PASSED and line.own is NOTHING_OWN and item.steps == 1 and not is_long(line):
+                texts.append(line.text)
+                widths.append(1)
+                position += line.word in STEPS
+                continue
             if item.kind == PASSED:
                 texts.append(of_nobody(line.word, line.worker, line.text))
             for text in self.step_texts(item) if item.kind != PASSED else ():
@@ -110,6 +119,16 @@ class Follower:
         item.steps = len(parts)
         return parts
 
+    def is_plain(self, item, reply):
+        """Takes note of a step that is executed, if its reply says so and nothing else is to be compared."""
+        at = self.position + 1
+        if item.kind == PASSED or reply != DONE % (at, at):
+            return False
+        self.position = at
+        self.executed.append(item.line)
+        self.merging.executed_line(item)
+        return True
+
     def judged(self, item, texts, replies):
         """Compares the replies to an item with what its line says; None if the next is to be looked at."""
         line = item.line
@@ -119,7 +138,7 @@ class Follower:
             return self.judged_query(line, json.loads(replies[0]))
         width = 1 + (line.own.change is not None)
         for at, reply in enumerate(replies[::width], self.position + 1):
-            if reply != b'{"at":%d,"kept":%d,"ok":true}\n' % (at, at):
+            if reply != DONE % (at, at):
                 return self.refused(item, json.loads(reply))
         if line.own.change is not None:
             effects = (change_of(line, self.effect(it)) for it in replies[1::2])

@@ -24,6 +24,8 @@ from rewind_tools.following.traces import LONGEST
 MOST, TURN = 2_000, 64
 MOST_QUEUED = 65_536
 READY, LAST, PASSED, WAITS = range(4)
+# The words of lines that may wait, and of those that no other worker notices.
+WAITING, PLAIN = frozenset(("take", "receive", "broadcast")), frozenset(("take", "send", "release"))
 STEPS = frozenset(("feed", "take", "send", "release", "notice", "broadcast", "receive"))
 
 
@@ -58,7 +60,8 @@ class Batch:
             self.steps += item.steps
         if item.kind == LAST:
             self.ended.add(item.line.worker)
-        if item.kind == LAST or may_be_nothing(item.line):
+            self.is_open = True
+        elif item.line.word == "broadcast" and may_be_nothing(item.line):
             self.is_open = True
 
     def may_take(self, line):
@@ -67,7 +70,9 @@ class Batch:
             return False
         if line.word in STEPS and self.steps >= self.most_steps:
             return False
-        if self.items and (is_long(line) or is_long(self.items[-1].line)):
+        if line.word == "broadcast" and self.items and is_long(line):
+            return False
+        if self.items and self.items[-1].line.word == "broadcast" and is_long(self.items[-1].line):
             return False
         return line.own.change is None or not self.is_open
 
@@ -109,10 +114,23 @@ class Merging:
             line = self.next_line(worker)
             if line is None or not batch.may_take(line):
                 return
-            kind = self.kind_of(line)
+            kind = self.kind_of(line) if line.word in WAITING else READY
             if kind == WAITS:
                 return
-            self.plan_line(line, kind, batch)
+            if line.word in PLAIN and not self.parts:
+                self.plan_plain(line, kind, batch)
+            else:
+                self.plan_line(line, kind, batch)
+
+    def plan_plain(self, line, kind, batch):
+        """Plans a line that has neither sender nor receivers."""
+        batch.add(Item(line, kind, None, 1))
+        self.at[line.worker] += 1
+        if kind != LAST:
+            if line.word == "take":
+                self.count_record(line.needs, -1)
+            for record in line.makes:
+                self.count_record(record, 1)
 
     def plan_line(self, line, kind, batch):
         got, steps = self.got_before(line), 1

@@ -167,7 +167,7 @@ class Reader:
             if number % EACH == 0:
                 report(f"lines of {log.path} read", number, log.count)
             try:
-                self.line(number, json.loads(text))
+                self.line(number, json.loads(str(text, "utf-8")))
             except (ValueError, RecursionError):
                 raise Unreadable(log.path, number, "it is no JSON") from None
             except NoEvent as why:

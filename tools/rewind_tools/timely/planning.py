@@ -145,6 +145,8 @@ class Worker:
 
     def pending(self):
         """What is to be sent first."""
+        if len(self.next) == 1:
+            return self.next[0]
         scope = self.sends[self.sent].scope
         return next(it for it in self.next if it.scope == scope)
 

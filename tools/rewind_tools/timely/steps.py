@@ -30,20 +30,20 @@ class Steps:
     def __init__(self, epochs):
         self.rank = {epoch: rank for rank, epoch in enumerate(sorted(epochs))}
         self.stamps = {epoch: (rank,) for epoch, rank in self.rank.items()}
-        self.lists = {epoch: b"%d" % rank for epoch, rank in self.rank.items()}
+        self.lists = {}
         self.texts, self.owns = {}, {}
 
     def stamp(self, time):
         """A time with its epoch's rank."""
         if time not in self.stamps:
             self.stamps[time] = (self.rank[time[0]], *time[1:])
-            self.lists[time] = ",".join(map(str, self.stamps[time])).encode()
         return self.stamps[time]
 
-    def list(self, time):
-        """The same as what stands in the brackets of a line."""
-        self.stamp(time)
-        return self.lists[time]
+    def list(self, stamp):
+        """What stands in the brackets of a line."""
+        if stamp not in self.lists:
+            self.lists[stamp] = ",".join(map(str, stamp)).encode()
+        return self.lists[stamp]
 
     def record(self, hop, to, time):
         """A message on a channel, as a follower knows it."""
@@ -53,7 +53,7 @@ class Steps:
         """Steps that take messages which are one record."""
         edge, _, stamp, _ = record
         text = b'{"do":"take","p":%d,"edge":"%s","time":[%s],"value":0}'
-        text %= pending.worker.index, edge.encode(), ",".join(map(str, stamp)).encode()
+        text %= pending.worker.index, edge.encode(), self.list(stamp)
         made = [Step(pending.worker, pending.batch, "take", text, entry) for _ in range(count)]
         for it in made:
             it.needs = record
@@ -80,22 +80,22 @@ class Steps:
     def send(self, pending, hop, since, record, count=1):
         _, to, stamp, _ = record
         text = b'{"do":"send","p":%d,"vertex":"%s","time":[%s],"port":%d,"values":[%s],"at":[%s],"dest":%d}'
-        its = pending.worker.index, hop.source.vertex.encode(), self.list(since), hop.port
-        at = ",".join(map(str, stamp)).encode()
-        text %= *its, b",".join([b"0"] * count), at, to
+        its = pending.worker.index, hop.source.vertex.encode(), self.list(self.stamp(since)), hop.port
+        text %= *its, b",".join([b"0"] * count), self.list(stamp), to
         step = Step(pending.worker, pending.batch, "send", text, None)
         step.makes = (record,) * count
         return step
 
     def release(self, pending, port, time, entry=None):
         text = b'{"do":"release","p":%d,"vertex":"%s","time":[%s]}'
-        its = pending.worker.index, port.vertex.encode(), self.list(time)
+        its = pending.worker.index, port.vertex.encode(), self.list(self.stamp(time))
         return Step(pending.worker, pending.batch, "release", text % its, entry)
 
     def keep(self, pending, port, since, time, entry):
         """A later capability beside one that is held."""
         text = b'{"do":"release","p":%d,"vertex":"%s","time":[%s],"to":[%s],"keep":true}'
-        its = pending.worker.index, port.vertex.encode(), self.list(since), self.list(time)
+        times = self.list(self.stamp(since)), self.list(self.stamp(time))
+        its = pending.worker.index, port.vertex.encode(), *times
         return Step(pending.worker, pending.batch, "release", text % its, entry)
 
     def broadcast(self, worker, batch, number, change):
