@@ -3,12 +3,13 @@ import json
 import os
 import re
 import signal
+import tempfile
 import time
 import unittest
 
 from live_tests.served import (
-    CHOOSE, POSITION, TEXT, Page, Served, ServedBy, Tunnel, around, chain, feed, needs_browser, opening_of,
-    stuck,
+    CHOOSE, POSITION, STUCK, TEXT, Page, Served, ServedBy, Tunnel, around, chain, feed, needs_browser,
+    opening_of, stuck,
 )  # fmt: skip
 from live_tests.looking import picture
 from rewind_tools import runs
@@ -33,6 +34,13 @@ return [...all].filter((it) => !named(it)).map((it) => it.outerHTML);
 SLOW_QUESTION = """
 inTurn(() => new Promise((done) => { setTimeout(done, 3000); }));
 for (let at = 0; at < 3; at += 1) source.actions.back();
+"""
+# Drags over the overview, from one share of it to another.
+BRUSH = """
+const left = by("strip").getBoundingClientRect().left + LEFT;
+const at = (share) => ({ clientX: left + share * plotWidth(), bubbles: true });
+by("strip").dispatchEvent(new PointerEvent("pointerdown", at(arguments[0])));
+window.dispatchEvent(new PointerEvent("pointerup", at(arguments[1])));
 """
 # Keeps what the page says of its progress.
 WATCH = """
@@ -587,3 +595,130 @@ class Reading(unittest.TestCase):
             page.press_in("#candidates button", "enter")
             page.says("why", "finished")
             self.assertEqual(page.run("return document.activeElement.closest('ul').id"), "candidates")
+
+
+@needs_browser
+class Knowing(unittest.TestCase):
+    """Who knows what, the address, what differs between positions, and steps that are found."""
+
+    def bands(self, page):
+        """The colours of the lanes, once all is known."""
+        page.wait(lambda: page.run("return over !== null && over.whole && isAnswered()"), "all lanes")
+        return page.run(
+            "return laneNames().map((_, lane) => bandsOf(lane).map((it) => [it.from, it.to, it.holds]))"
+        )
+
+    def test_lanes(self):
+        """Each lane turns green by the step by which its processor passes the point, never before the truth
+        does; the steps of the reason and of its end are marked."""
+        with ServedBy(f"tools/live {STUCK} --processors 2") as live, Page(live) as page:
+            page.at(13, "the page")
+            page.says("known", "Who knows that all before total (0) is finished")
+            # processor 1 feeds by step 12; processor 0 hears of it by step 14, and processor 1 by step 16
+            self.assertEqual(self.bands(page), [
+                [[0, 14, False], [14, 25, True]],
+                [[0, 16, False], [16, 25, True]],
+                [[0, 12, False], [12, 25, True]],
+            ])  # fmt: skip
+            rings = "return [...document.querySelectorAll('.ring')].map((it) => it.classList[1])"
+            self.assertEqual(sorted(page.run(rings)), ["ends", "from"])
+            brings = "return document.querySelector('#spacetime [data-position=\"13\"] title').textContent"
+            self.assertIn("words (0) \u22121", page.run(brings))
+            page.click_text("#spacetime .lane-name", "processor 1")
+            page.says("why", "processor 1 does not know")
+            picture(page, "lanes")
+
+    def test_address(self):
+        """An address leads to its position and its question, and the browser's back to those before."""
+        with stuck() as live, Page(live) as page:
+            page.at(11, "the page")
+            page.says("why", "does not know")
+            page.open("about:blank")
+            page.open(f"{live.address}#at=7&why=1,out,0")
+            page.at(7, "its position")
+            page.says("why", "processor 1 does not know that out (0) is finished")
+            time.sleep(1)
+            page.press("right")
+            page.at(8, "a step on")
+            page.wait(lambda: page.run("return location.hash") == "#at=8&why=1,out,0", "its address")
+            time.sleep(1)
+            page.click(page.find(".graph .vertex[data-place='0']"))
+            page.wait(lambda: "why=1,words,0" in page.run("return location.hash"), "the question's address")
+            page.run("history.back()")
+            page.says("why", "processor 1 does not know that out (0) is finished")
+            page.run("history.back()")
+            page.at(7, "the position before")
+            page.run("location.reload()")
+            page.at(7, "the page again")
+            page.says("why", "processor 1 does not know that out (0) is finished")
+
+    def test_zoom(self):
+        """All steps, those around a place of the overview, and fewer."""
+        with Served([*around(), '{"do":"run","limit":2500}']) as live, Page(live) as page:
+            page.at(2501, "the page")
+            page.says("range", "steps 2442 to 2501 of 2501")
+            page.press("0")
+            page.says("range", "steps 1 to 2501 of 2501")
+            bins = "return document.querySelectorAll('#spacetime .density').length"
+            page.wait(lambda: page.run(bins), "how many steps there are")
+            picture(page, "all-steps")
+            page.press("+")
+            page.says("range", "steps 1251 to 2501 of 2501")
+            page.run(BRUSH, 0.25, 0.26)
+            page.wait(lambda: "steps 62" in page.run(TEXT, "range"), "the steps of the brush")
+            self.assertEqual(page.run(POSITION), "2501")
+            page.press_in("#spacetime .step", "enter")
+            page.wait(lambda: page.run(POSITION).startswith("62"), "the step that was in focus")
+
+    def test_stairs(self):
+        """A processor that is stuck is a flat line, and a loop that never rests a diagonal."""
+        with Served([*around(), '{"do":"run","limit":200}']) as live, Page(live) as page:
+            page.at(201, "the page")
+            page.click(page.find(".graph .vertex[data-place='2']"))
+            page.says("why", "does not know that m (0,0) is finished")
+            page.wait(lambda: page.run("return document.querySelectorAll('.stair').length") == 1, "its line")
+
+    def test_compared(self):
+        """A click on a step with shift: what differs between its position and this one."""
+        with stuck() as live, Page(live) as page:
+            page.at(11, "the page")
+            page.wait(lambda: page.run("return waiting === 0"), "the first picture")
+            page.run(
+                "document.querySelector('#spacetime [data-position=\"1\"]')"
+                ".dispatchEvent(new MouseEvent('click', { shiftKey: true }))"
+            )
+            page.says("compare", "truth at words-total\u00a0(0)")
+            texts = "return [...document.querySelectorAll('#compare tr')].map((it) => it.textContent)"
+            rows = page.run(texts)
+            self.assertEqual(rows[0], "what differsat 11at 1")
+            # at 11 all records are taken; at 1 processor 0 has fed 2 and 3, of which 3 is processor 1's
+            self.assertIn("truth at words-total\u00a0(0)02", rows)
+            self.assertIn("processor 0, recordsnothing2 on words-total\u00a0(0)", rows)
+            picture(page, "compared")
+
+    def test_found(self):
+        with stuck() as live, Page(live) as page:
+            page.at(11, "the page")
+            page.tab("find")
+            page.run("findControls.kind.selectedIndex = 2; findControls.p.selectedIndex = 2")
+            page.click_text("#find button", "find steps")
+            # processor 1 takes 3 by step 4, and 5 by step 8
+            page.says("found", "2 steps")
+            page.click_text("#found button", "4. processor 1 takes a record of value 3")
+            page.at(4, "the step")
+            page.run("findControls.at.selectedIndex = 3; findControls.kind.selectedIndex = 0")
+            page.click_text("#find button", "find steps")
+            page.says("found", "no such step")
+
+    def test_exported(self):
+        """The page as one file, with the steps after the cursor, opens where this one is."""
+        with stuck() as live, Page(live) as page, tempfile.TemporaryDirectory(prefix="live-") as room:
+            page.at(11, "the page")
+            page.press("left", "left")
+            page.at(9, "two steps back")
+            with open(f"{room}/page.html", "w", encoding="utf-8") as it:
+                it.write(live.asked("export", {})["page"])
+            page.open(f"file://{room}/page.html")
+            page.wait(lambda: page.run("return picture && picture.at") == 9, "the position")
+            self.assertEqual(page.run("return picture.kept"), 11)
+            page.says("why", "the token of processor 1")

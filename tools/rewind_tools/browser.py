@@ -17,6 +17,7 @@ ELEMENT = "element-6066-11e4-a52e-4f735466cecf"
 KEYS = {
     "left": "\ue012",
     "right": "\ue014",
+    "down": "\ue015",
     "home": "\ue011",
     "end": "\ue010",
     "enter": "\ue007",

@@ -71,12 +71,13 @@ class OverTime:
     def __init__(self, graph, turned, processors):
         self.graph, self.turned, self.processors = graph, turned, processors
         self.replies, self.owners = [], bytearray()  # by the steps, from the first on
-        self.carried, self.times, self.origins = {}, {}, {}
+        self.carried, self.times, self.origins, self.near = {}, {}, {}, {}
 
     def forget_from(self, position):
         """Forgets what leads to positions past this one, since other steps may be kept there."""
         del self.replies[position:], self.owners[position:]
-        self.origins = {}
+        self.origins, self.near = {}, {}
+        self.turned.forget_from(position)
         self.carried = {it: one for it, one in self.carried.items() if it <= position}
         for place, found in self.times.items():
             self.times[place] = {it: one for it, one in found.items() if it <= position}
@@ -84,7 +85,8 @@ class OverTime:
     # ---- what is asked for
 
     def next_job(self, asked, kept):
-        jobs = (self.reading, self.carrying, self.knowing, self.coming_from, self.arriving, self.turning)
+        jobs = (self.nearing, self.reading, self.carrying, self.knowing, self.coming_from, self.arriving)
+        jobs += (self.turning,)
         return next((job for it in jobs if (job := it(asked, kept))), None)
 
     def reading(self, asked, kept):
@@ -118,6 +120,16 @@ class OverTime:
         why, when = asked.get("why"), asked.get("when")
         passed = [condition(self.graph, {**why, "q": q}) for q in range(self.processors)] if why else []
         return [*passed, *map(truth, passed[:1]), *([when] if when else [])]
+
+    def nearing(self, asked, kept):
+        """Asks where the conditions turn among the steps in sight, if that is not known of all steps yet."""
+        first, last = asked.get("window") or (1, 0)
+        is_few = 0 < last - first < MOST_CARRYING and last <= kept
+        open_ = [it for it in self.conditions(asked) if self.turned.about(it)["to"] < last] if is_few else []
+        keys = {json.dumps([it, first, last]): it for it in open_}
+        missing = {key: it for key, it in keys.items() if key not in self.near}
+        lines = [{"do": "turns", "when": it, "lo": first - 1, "hi": last} for it in missing.values()]
+        return Job(lines, lambda replies: self.near.update(zip(missing, replies))) if lines else None
 
     def knowing(self, asked, kept):
         """Asks from where on the processors know of the point's end."""
@@ -176,16 +188,19 @@ class OverTime:
             "read": len(self.replies),
             "density": self.density(1, kept, bins),
             "near": self.density(first, last, bins) if last - first >= MOST_CARRYING else None,
-            "lanes": [self.lane(it) for it in self.conditions(asked)],
+            "lanes": [self.lane(it, first, last) for it in self.conditions(asked)],
             "carried": {it: self.carried[it] for it in range(first, last + 1) if self.carried.get(it)},
             "origin": self.origins.get(key),
             "times": [[it, found[it]] for it in self.samples(kept) if it in found],
         }
 
-    def lane(self, when):
-        it = self.turned.about(when)
+    def lane(self, when, first, last):
+        """What is known of a condition: up to a position, and of the steps in sight, if that is beyond."""
+        it, near = self.turned.about(when), self.near.get(json.dumps([when, first, last]), {})
         words = condition_words(when).replace(FIRM, " ")
-        return {"when": words, **{key: it.get(key) for key in ("at_lo", "turns", "to", "error")}}
+        told = {key: it.get(key) for key in ("at_lo", "turns", "to", "error")}
+        is_beyond = it["to"] < last and "turns" in near
+        return {"when": words, **told, "near": {**near, "lo": first - 1, "to": last} if is_beyond else None}
 
     def density(self, first, last, bins):
         """How many steps each processor executes, in bins of equal width."""

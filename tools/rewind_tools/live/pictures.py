@@ -116,7 +116,8 @@ class Pictures:
         """The steps in sight, with the updates between processors; of many their positions alone."""
         if not sight.get("steps", True):
             return None
-        first, last = window(cursor, kept, sight.get("count", STEPS), sight.get("first"))
+        chosen = sight.get("count", STEPS), sight.get("first"), sight.get("of")
+        first, last = window(cursor, kept, *chosen)
         if last - first >= MOST_STEPS:
             return {"first": first, "last": last, "items": [], "messages": []}
         steps = self.steps_in(first, last)

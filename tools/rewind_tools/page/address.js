@@ -2,7 +2,8 @@
 // The address of what is shown: run.html#at=11&why=0,out,0 is position 11 with the question about out (0) of processor 0;
 // "&before" asks about all strictly before it. The browser's back goes to the address before.
 const QUICK = 600;
-let isFollowing = false, pushedAt = 0;
+// Whether the page goes where the address leads, as it does first.
+let isFollowing = true, pushedAt = -QUICK;
 
 function addressNow(at) {
   const why = question();
@@ -25,7 +26,7 @@ function addressOf(hash) {
 function noteAddress(at) {
   const hash = addressNow(at);
   if (isFollowing || hash === location.hash) return;
-  const isQuick = performance.now() - pushedAt < QUICK || !location.hash;
+  const isQuick = !location.hash || performance.now() - pushedAt < QUICK;
   pushedAt = performance.now();
   if (isQuick) history.replaceState(null, "", hash);
   else history.pushState(null, "", hash);
@@ -41,6 +42,14 @@ async function followAddress(hash) {
   } finally {
     isFollowing = false;
   }
+}
+
+// Goes where the address led that the page was opened with, or else asks what seems to be asked.
+async function openAddress(hash) {
+  if (hash.length > 1) await followAddress(hash);
+  if (chosen.place === null) await askFirst();
+  isFollowing = false;
+  source.asked();
 }
 
 window.addEventListener("popstate", () => followAddress(location.hash));

@@ -1,6 +1,6 @@
 "use strict";
 // The graph: what stands at each place, what changed there, what was asked about, and its size.
-const LARGEST_FIT = 1.5, SMALLEST_ZOOM = 0.3, LARGEST_ZOOM = 4;
+const COUNT_LETTER = 7.3, LARGEST_FIT = 1.5, LEAST_FIT = 0.8, SMALLEST_ZOOM = 0.3, LARGEST_ZOOM = 4;
 const graph = document.querySelector(".graph"), frame = document.querySelector("#drawing .wide");
 // How much larger the graph is than it was laid out; null to fit it into its frame.
 let zoom = null;
@@ -32,6 +32,11 @@ function showPlaces(marks = picture.marked) {
     const isChanged = before && state && JSON.stringify(here) !== JSON.stringify(old);
     const count = place.querySelector(".count");
     count.textContent = countText(here, place.classList.contains("label"));
+    // a long count is as wide as its place
+    const letters = count.textContent.length * COUNT_LETTER, room = place.querySelector("rect").width.baseVal.value - 6;
+    if (letters > room) count.setAttribute("textLength", room);
+    else count.removeAttribute("textLength");
+    count.setAttribute("lengthAdjust", "spacingAndGlyphs");
     count.dataset.n = here ? here.n : state ? "0" : "";
     place.querySelector("title").textContent = here ? [`${here.n} ${here.of}`, ...here.by].join("\n") : "nothing is here";
     place.setAttribute("aria-label", placeName(number, here));
@@ -60,7 +65,8 @@ function showChangedPlace() {
 }
 
 function fitting() {
-  return Math.min(LARGEST_FIT, frame.clientWidth / Number(graph.dataset.width));
+  const high = Math.max(LEAST_FIT, frame.clientHeight / Number(graph.dataset.height));
+  return Math.min(LARGEST_FIT, frame.clientWidth / Number(graph.dataset.width), high);
 }
 
 function showZoom() {

@@ -112,8 +112,10 @@ async function lookAtAll() {
   }
 }
 
+// How many positions were looked at, on the average of the lanes.
 function lookedAt({ read, lanes }) {
-  return Math.min(read, ...lanes.filter((it) => !it.error).map((it) => it.to));
+  const all = [read, ...lanes.filter((it) => !it.error).map((it) => it.to)];
+  return Math.floor(all.reduce((one, other) => one + other) / all.length);
 }
 
 // ---- commands. A line is an object, or the text of one, whose numbers a browser would round.
@@ -447,7 +449,11 @@ const source = {
   showFrom(key, first) { sight[key] = first; return inTurn(refresh); },
   async why(question_) {
     let told;
-    await inTurn(async () => { told = await asked("why", question_); });
+    await inTurn(async () => {
+      told = await asked("why", question_);
+      // before the next question, which is about this time
+      if (told.time && chosen.place === placeNumber(question_.at)) chosen.time = told.time;
+    });
     return told;
   },
   actions: {
@@ -497,4 +503,4 @@ showOnly();
 watchServer();
 // The first picture, and then what the address names, or else what seems to be asked.
 const opened = location.hash;
-inTurn(refresh).then(() => (opened.length > 1 ? followAddress(opened) : askFirst()));
+inTurn(refresh).then(() => openAddress(opened));

@@ -219,8 +219,15 @@ const source = {
   isLive: false,
   goToStep,
   look() { Object.assign(picture, { steps: stepsInSight() }); over = overAll(); showTime(); },
-  asked() { over = overAll(); showTime(); noteAddress(position); },
-  goToAddress: (at) => show(Math.max(0, Math.min(run.ats.length - 1, at === null ? position : at))),
+  asked() {
+    if (picture) this.look();
+    noteAddress(position);
+  },
+  goToAddress(at) {
+    wanted = Math.max(0, Math.min(run.ats.length - 1, at === null ? position : at));
+    shown = shown.then(() => show(wanted));
+    return shown;
+  },
   async states(positions) {
     const all = await Promise.all(positions.map((it) => positionOf(nearest(it))));
     return all.map((it) => it.picture && it.picture.state);
@@ -249,10 +256,9 @@ by("goto").addEventListener("submit", (event) => {
   if (Number.isInteger(at) && at >= 1 && at <= run.ats.length) ask(at - 1);
 });
 by("slider").addEventListener("input", () => ask(Number(by("slider").value)));
-const opened_ = addressOf(location.hash);
+const address = location.hash;
 unpacked(run.over).then((it) => {
   log = it;
-  wanted = opened_.at === null ? about.opens : opened_.at;
-  if (opened_.why) Object.assign(chosen, opened_.why);
-  return ask(wanted);
-}).then(() => (opened_.why ? undefined : askFirst()));
+  wanted = about.opens;
+  return addressOf(address).at === null ? ask(wanted) : undefined;
+}).then(() => openAddress(address));

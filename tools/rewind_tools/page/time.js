@@ -2,14 +2,15 @@
 // Who knows what, from where on: a lane for each processor along the steps, and one for the truth. Above it the
 // overview of the whole run, and the times that can still arrive, as each processor knows them.
 const FEWEST = 8, COMMON = 60, MOST_LISTED = 400, WIDEST_STEP = 64, LEFT = 92, RIGHT = 12, LETTER = 6.4, BINS = 300, STAIRS = 46;
-// Which steps are in sight: how many, and from which on, null for those around the cursor.
-const view = { count: COMMON, first: null };
+// Which steps are in sight: how many, and from which on, null for those around the cursor; chosen at which cursor.
+const view = { count: COMMON, first: null, of: null };
 // What is known of all kept steps, and the question that it answers.
 let over = null;
 
 // As live/sight.py has it.
-function windowOf(cursor, kept, { count, first }) {
-  const wanted = first === null || cursor < first - 1 || cursor >= first + count ? cursor - Math.floor(count / 2) : first;
+function windowOf(cursor, kept, { count, first, of }) {
+  const isAway = first === null || (cursor !== of && (cursor < first - 1 || cursor >= first + count));
+  const wanted = isAway ? cursor - Math.floor(count / 2) : first;
   const from = Math.max(1, Math.min(wanted, kept - count + 1));
   return [from, Math.min(kept, from + count - 1)];
 }
@@ -59,21 +60,30 @@ function isAnswered() {
 function bandsOf(lane) {
   const isOwn = lane >= about.processors + (chosen.place === null ? 0 : 1);
   const known = (isOwn || isAnswered()) && over && over.lanes[isOwn ? over.lanes.length - 1 : lane];
-  if (!known || known.error || known.at_lo === null) return [{ from: 0, to: picture.kept, holds: null }];
-  const ends = [0, ...known.turns.filter((at) => at <= picture.kept), Math.min(known.to, picture.kept)];
-  const bands = ends.slice(1).map((to, at) => ({ from: ends[at], to, holds: known.at_lo === (at % 2 === 0) }));
-  if (known.to < picture.kept) bands.push({ from: known.to, to: picture.kept, holds: null });
+  if (!known || known.error) return [{ from: 0, to: picture.kept, holds: null }];
+  const bands = known.at_lo === null ? [] : bandsIn({ lo: 0, ...known });
+  const last = known.at_lo === null ? 0 : Math.min(known.to, picture.kept), { near } = known;
+  const isNear = near && near.lo >= last && near.to <= picture.kept;
+  if (isNear) bands.push({ from: last, to: near.lo, holds: null }, ...bandsIn(near));
+  const end = isNear ? near.to : last;
+  if (end < picture.kept) bands.push({ from: end, to: picture.kept, holds: null });
   return bands;
+}
+
+function bandsIn({ lo, at_lo: atLo, turns, to }) {
+  const ends = [lo, ...turns.filter((at) => at <= picture.kept), Math.min(to, picture.kept)];
+  return ends.slice(1).map((end, at) => ({ from: ends[at], to: end, holds: atLo === (at % 2 === 0) }));
 }
 
 function bandParts(lane, top, high, place, first, last) {
   const kind = laneNames()[lane] === "condition" ? "holding" : "knowing";
-  return bandsOf(lane).flatMap(({ from, to, holds }) => {
+  return bandsOf(lane).flatMap(({ from, to, holds }, index, bands) => {
     const begin = Math.max(first, place(from)), end = Math.min(last, to === picture.kept ? last : place(to));
     if (end <= begin) return [];
     const name = holds === null ? "unknown" : `${kind}-${holds}`;
     const band = drawn("rect", { class: `band ${name}`, x: begin, y: top, width: end - begin, height: high });
-    const edge = from > 0 && place(from) >= first && holds !== null;
+    const isTurn = bands[index - 1] && bands[index - 1].holds === !holds;
+    const edge = isTurn && place(from) >= first && holds !== null;
     return edge ? [band, drawn("line", { class: `edge-${holds}`, x1: begin, x2: begin, y1: top, y2: top + high })] : [band];
   });
 }
@@ -118,6 +128,7 @@ function look(count, first) {
   const kept = Math.max(FEWEST, picture.kept);
   view.count = Math.max(FEWEST, Math.min(kept, Math.round(count)));
   view.first = first === null ? null : Math.max(1, Math.round(first));
+  view.of = picture.at;
   return source.look();
 }
 
@@ -168,13 +179,14 @@ function showStairs() {
   const all = new Map();
   for (const [, times] of samples) for (const it of times) if (it.length) all.set(timeText(it[0]), it[0]);
   const order = [...all.values()].sort(compareTimes), rank = new Map(order.map((it, at) => [timeText(it), at]));
-  const most = Math.max(1, order.length), end = LEFT + plotWidth();
+  const most = Math.max(1, order.length - (samples.some(([, times]) => times.some((it) => !it.length)) ? 0 : 1)), end = LEFT + plotWidth();
   const level = (times) => STAIRS - 4 - ((times.length ? rank.get(timeText(times[0])) : most) / most) * (STAIRS - 10);
   const name = about.places[chosen.place].name;
   const svg = drawn("svg", { width: end + RIGHT, height: STAIRS, role: "img", "aria-label": `the earliest time that can still arrive at ${name}, as each processor knows` });
   svg.append(drawn("text", { class: "lane-name", x: 2, y: 11 }, "arrives at"), drawn("text", { class: "lane-name", x: 2, y: 24 }, name.length > 11 ? `${name.slice(0, 10)}\u2026` : name));
+  const top = samples.some(([, times]) => times.some((it) => !it.length)) ? "none" : order.length > 1 ? timeText(order[order.length - 1]) : "";
   if (order.length) svg.append(drawn("text", { class: "scale", x: LEFT - 4, y: STAIRS - 2 }, timeText(order[0])));
-  svg.append(drawn("text", { class: "scale", x: LEFT - 4, y: 12 }, samples.some(([, times]) => times.some((it) => !it.length)) ? "none" : timeText(order[order.length - 1])));
+  svg.append(drawn("text", { class: "scale", x: LEFT - 4, y: 12 }, top));
   for (const { all: same, q } of stairsOf(samples)) {
     const points = samples.map(([at, times]) => [xOfAll(at), level(times[q])]);
     const d = points.map(([at, high], index) => (index ? `H${at}V${high}` : `M${at},${high}`)).join("");
@@ -271,7 +283,7 @@ function refusedMark({ at, p, words }) {
 // The step from which on the processor that is asked counts what is in the way, and the one that ends that.
 function ringsOf() {
   if (chosen.place === null || !isAnswered()) return [];
-  const turns = bandsOf(chosen.q).filter((it) => it.holds && it.from > 0).map((it) => it.from);
+  const turns = bandsOf(chosen.q).filter((it, at, all) => it.holds && at > 0 && all[at - 1].holds === false).map((it) => it.from);
   const ends = turns.find((at) => at > picture.at) || turns.reverse().find((at) => at <= picture.at);
   const came = (over.origin || []).filter(([at]) => at <= picture.at).pop();
   const rings = [["from", came && came[0], "from this step on it counts what is in the way"], ["ends", ends, "by this step it knows that the point is finished"]];
@@ -286,7 +298,7 @@ function ringsOf() {
 // How far each lane's edge is behind the truth's: a line from that on through all lanes.
 function truthLine() {
   if (chosen.place === null) return [];
-  const turn = bandsOf(about.processors).find((it) => it.holds && it.from > 0);
+  const turn = bandsOf(about.processors).find((it, at, all) => it.holds && at > 0 && all[at - 1].holds === false);
   if (!turn || turn.from < picture.steps.first || turn.from > picture.steps.last) return [];
   return [drawn("line", { class: "truth-line", x1: x(turn.from), x2: x(turn.from), y1: 4, y2: y(about.processors) })];
 }

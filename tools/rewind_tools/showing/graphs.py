@@ -139,7 +139,8 @@ def graph_svg(graph, drawn):
         ' markerWidth="10" '
     )
     head += 'markerHeight="10" orient="auto"><path d="M0,0 L8,4 L0,8 z"/></marker></defs>'
-    size = f'viewBox="{-RIM} {-RIM} {wide:g} {high:g}" width="{wide:g}" data-width="{wide:g}"'
+    size = f'viewBox="{-RIM} {-RIM} {wide:g} {high:g}" width="{wide:g}"'
+    size += f' data-width="{wide:g}" data-height="{high:g}"'
     start = f'<svg xmlns="http://www.w3.org/2000/svg" class="graph" {NAMED} {size}>'
     return f"{start}{head}{''.join(parts)}</svg>"
 
