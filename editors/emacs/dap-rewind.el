@@ -98,7 +98,7 @@ Without one, remove all entries."
             (append dap-rewind--entries
                     (list (or (gethash "dataId" (dap-rewind--asked "dataBreakpointInfo" :name entry
                                                                    :frameId (gethash "id" frame)))
-                              (user-error "%s is no location with a time" entry))))))
+                              (user-error "%s is not a location with a time" entry))))))
     (dap-rewind--set "setDataBreakpoints" :dataId dap-rewind--entries)))
 
 (defun dap-rewind--set (command key values)

@@ -62,9 +62,9 @@ TALK = [
 BEGUN = frame(request(1, "initialize", {}))
 # What is read, and what is said of it; the status of the adapter is 1 if the session ends with it.
 BROKEN = {
-    "no number": (b"Content-Length: x\r\n\r\n{}", "Content-Length is no number"),
-    "a negative number": (b"Content-Length: -5\r\n\r\n{}", "Content-Length is no number"),
-    "a long number": (b"Content-Length: %s\r\n\r\n" % (b"9" * 900), "Content-Length is no number"),
+    "no number": (b"Content-Length: x\r\n\r\n{}", "Content-Length is not a number"),
+    "a negative number": (b"Content-Length: -5\r\n\r\n{}", "Content-Length is not a number"),
+    "a long number": (b"Content-Length: %s\r\n\r\n" % (b"9" * 900), "Content-Length is not a number"),
     "a huge length": (b"Content-Length: %d\r\n\r\n{}" % (LARGEST + 1), f"a message has {LARGEST + 1} bytes"),
     "no length": (b"Content-Type: x\r\n\r\n{}", "a message has no Content-Length"),
     "no header": (b"\r\n{}", "a message has no Content-Length"),
@@ -76,12 +76,12 @@ BROKEN = {
     "no frame": (b"{}\r\n{}\r\n", "a header is neither"),
 }
 LEFT_OUT = {
-    "no JSON": (b"{", "a message is no JSON"),
-    "no text": (b"\xff\xfe", "a message is no JSON"),
-    "nothing": (b"", "a message is no JSON"),
-    "deep": (b"[" * 100_000, "a message is no JSON"),
-    "a list": (b"[]", "a message is no request"),
-    "a response": (b'{"type":"response","seq":1}', "a message is no request"),
+    "no JSON": (b"{", "a message is not JSON"),
+    "no text": (b"\xff\xfe", "a message is not JSON"),
+    "nothing": (b"", "a message is not JSON"),
+    "deep": (b"[" * 100_000, "a message is not JSON"),
+    "a list": (b"[]", "a message is not a request"),
+    "a response": (b'{"type":"response","seq":1}', "a message is not a request"),
     "no command": (b'{"type":"request","seq":1}', "a request has no number or no command"),
     "no number": (b'{"type":"request","command":"threads"}', "a request has no number or no command"),
     "a number of another kind": (
@@ -202,7 +202,7 @@ class Frames(testing.Case):
             self.holds(f"{name}: why", said[-1].startswith(f"stderr: {why}"), said)
 
     def test_left_out(self):
-        """A message that is no request is left out."""
+        """A message that is not a request is left out."""
         for name, (body, why) in LEFT_OUT.items():
             text = BEGUN + frame(body) + frame(request(2, "disconnect", {}))
             ran = subprocess.run(COMMAND, input=text, capture_output=True, timeout=SECONDS)

@@ -50,7 +50,7 @@ def without(logs, worker, place):
 
 
 def cut(logs, worker, count):
-    """Logs of which a worker's has so many events."""
+    """Logs of which a worker's has `count` events."""
     return [log[:count] if at == worker else log for at, log in enumerate(logs)]
 
 
@@ -431,7 +431,7 @@ MISREAD = {
         "an entry at the border of m 2, which is a scope: no message there explains it",
     ),
     "a time of two numbers": (fed_with(M, 0, [0, 0], 1), "unsupported: w0, line 6", "the time [0, 0]"),
-    "a time that is no number": (fed_with(M, 0, ["now"], 1), "unsupported: w0, line 6", "the time ['now']"),
+    "a text for a time": (fed_with(M, 0, ["now"], 1), "unsupported: w0, line 6", "the time ['now']"),
     "a delay": (
         line_but(2, summary=[[0, 0, 1]]),
         "unsupported: w0, line 3",
@@ -457,7 +457,7 @@ MISREAD = {
         "unsupported: w0",
         "the program refuses the graph: 46 LoopNotStrict",
     ),
-    "no JSON": ([b'{"event":"Operates"\n{}\n'], "unreadable: w0, line 1", "it is no JSON"),
+    "no JSON": ([b'{"event":"Operates"\n{}\n'], "unreadable: w0, line 1", "it is not JSON"),
     "no object": ([b"5\n"], "unreadable: w0, line 1", 'an object with a text "event"'),
     "a trace": ([b'{"do":"broadcast","p":0}\n'], "unreadable: w0, line 1", 'an object with a text "event"'),
     "no operators": ([[FED]], "unreadable: w0", "no file has an event Operates"),
@@ -470,7 +470,7 @@ MISREAD = {
     "a member of another form": (
         line_but(5, is_send=1),
         "unreadable: w0, line 6",
-        '"is_send" is 1; it is to be true or false',
+        '"is_send" is 1; it must be true or false',
     ),
     "an entry of another form": (
         fed_with(M, 0, [0]),

@@ -560,13 +560,13 @@ WRONG = {
 # The graph, the traces, how the words begin, and why.
 UNREADABLE = {
     "another command": (
-        "line", [[{"do": "back"}]], 'w0, line 1: {"do": "back"}', '"back" is no line of a trace'
+        "line", [[{"do": "back"}]], 'w0, line 1: {"do": "back"}', '"back" is not a line of a trace'
     ),
     "another query": (
-        "line", [[{"do": "state"}]], "w0, line 1", '"state" is no line of a trace'
+        "line", [[{"do": "state"}]], "w0, line 1", '"state" is not a line of a trace'
     ),
     "a word that is none": ("line", [[{"do": "tke"}]], "w0, line 1", "31 BadShape"),
-    "a word that is no text": ("line", [[{"do": ["take"], "p": 0}]], "w0, line 1", "31 BadShape"),
+    "a word that is not a text": ("line", [[{"do": ["take"], "p": 0}]], "w0, line 1", "31 BadShape"),
     "another worker": (
         "line", [[feed(1, "a", [], "close")], []], "w0, line 1",
         '"p" is 1, and this is the trace of worker 0',
@@ -577,7 +577,7 @@ UNREADABLE = {
     "a query of another worker": ("line", [[view(1, [])]], "w0, line 1", '"q" is 1'),
     "an unknown name": (
         "line", [[take(0, "ax", [0], 5)]], "w0, line 1",
-        '32 UnknownName: "ax" is no name of the graph; wanted is an edge; the nearest is "az"',
+        '32 UnknownName: "ax" is not a name in the graph; expected an edge; the nearest is "az"',
     ),
     "a time of another depth": (
         "line", [[take(0, "az", [CLOCK, 0], 5)]], "w0, line 1",
@@ -600,24 +600,24 @@ UNREADABLE = {
         "line", [[take(0, "az", [2**64], 5)]], "w0, line 1", "31 BadShape"
     ),
     "a number below 0": (
-        "line", [[broadcast(0, number=-1)]], "w0, line 1", '"number" is -1; it is to be'
+        "line", [[broadcast(0, number=-1)]], "w0, line 1", '"number" is -1; it must be'
     ),
-    "a change that is no list": (
-        "line", [[broadcast(0, change={})]], "w0, line 1", '"change" is {}; it is to be a list'
+    "a change that is not a list": (
+        "line", [[broadcast(0, change={})]], "w0, line 1", '"change" is {}; it must be a list'
     ),
     "an entry that is none": (
         "line", [[broadcast(0, change=[["a", [0]]])]], "w0, line 1", '"change" has ["a",[0]]; an entry'
     ),
     "a change at no location": (
         "line", [[broadcast(0, change=[["b", [0], 1]])]], "w0, line 1",
-        '"change" names "b", which is no name of the graph',
+        '"change" names "b", which is not a name in the graph',
     ),
     "a change at no time": (
         "line", [[receive(0, 0, change=[["a", [0, 0], 1]])]], "w0, line 1",
         '"change" has the time [0,0] at "a", where a time has 1 number',
     ),
     "members that are none": (
-        "line", [[{"do": "view", "q": 0, "is": []}]], "w0, line 1", '"is" is []; it is to be an object'
+        "line", [[{"do": "view", "q": 0, "is": []}]], "w0, line 1", '"is" is []; it must be an object'
     ),
     "a view of no location": (
         "line", [[view(0, [["b", [0], 1]])]], "w0, line 1", '"view" names "b"'
@@ -626,8 +626,8 @@ UNREADABLE = {
         "line", [[{"do": "frontier", "q": 0, "at": "z", "is": {"times": [[0, 0]]}}]],
         "w0, line 1", '"is" has the time [0,0] at "z"',
     ),
-    "a note that is no text": (
-        "line", [[broadcast(0, note=5)]], "w0, line 1", '"note" is 5; it is to be a text'
+    "a note that is not a text": (
+        "line", [[broadcast(0, note=5)]], "w0, line 1", '"note" is 5; it must be a text'
     ),
     "a long line": (
         "line", [[broadcast(0, note="x" * 65536)]], "w0, line 1", "33 LineTooLong: the line has 655"
@@ -636,7 +636,7 @@ UNREADABLE = {
         "line", [[feed(0, "a", [], "close"), "{", "{"], ["{"]], "w0, line 2", "30 BadLine"
     ),
     "before a line that is refused": (
-        "line", [[take(0, "az", [0], 5), *CLOSED, {"do": "redo"}]], "w0, line 4", '"redo" is no line'
+        "line", [[take(0, "az", [0], 5), *CLOSED, {"do": "redo"}]], "w0, line 4", '"redo" is not a line'
     ),
     "a key that is too many, after a line that is refused": (
         "line", [[take(0, "az", [0], 5), broadcast(0, at=1)]], "w0, line 2", '31 BadShape: the key "at"'

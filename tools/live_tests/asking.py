@@ -85,7 +85,7 @@ class Stuck(unittest.TestCase):
 
     def test_wrong_time(self):
         why = self.live.asked("why", {"q": 0, "at": "out", "time": [0, 0]})
-        self.assertEqual(why["error"], "(0,0) is no time of out, where a time is the epoch alone")
+        self.assertEqual(why["error"], "(0,0) is not a time of out, where a time is the epoch alone")
 
 
 class Finishing(unittest.TestCase):

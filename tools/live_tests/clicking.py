@@ -201,12 +201,12 @@ class Feeding(unittest.TestCase):
             page.says("effect", "takes a record of value -9223372036854775808 from")
 
     def test_values_that_are_none(self):
-        """A value that is no number is named before anything is asked, and the field keeps its text."""
+        """A value that is not a number is named before anything is asked, and the field keeps its text."""
         with stuck() as live, Page(live) as page:
             page.press("home")
             page.at(0, "the start")
             for typed, said in (
-                ("2 x3 4", '"x3" is no whole number'),
+                ("2 x3 4", '"x3" is not an integer'),
                 ("9223372036854775808", "is not between"),
             ):
                 page.fill(VALUES, typed)
@@ -417,7 +417,7 @@ class Going(unittest.TestCase):
             page.says("turns", "does not hold at the start, and changes at 4, 5")
             page.fill("#when input", "counted z 1")
             page.click_text("#when button", "show where it holds")
-            page.says("said", "counted is no condition")
+            page.says("said", "counted is not a condition")
 
     def test_run_in_pieces(self):
         """A run in pieces ends as one: idle, with all steps counted, or at a breakpoint."""
@@ -467,10 +467,10 @@ class Asking(unittest.TestCase):
             page.says("why", "finished")
             page.fill("#why-form input", "0,0")
             page.press("enter")
-            page.says("why", "(0,0) is no time of words")
+            page.says("why", "(0,0) is not a time of words")
             page.fill("#why-form input", "x")
             page.press("enter")
-            page.says("said", '"x" is no whole number')
+            page.says("said", '"x" is not an integer')
 
 
 @needs_browser

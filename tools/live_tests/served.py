@@ -124,7 +124,7 @@ def feed(values, **more):
 
 
 def chain(length, feeds, values):
-    """A graph with an input and some vertices in a row, and feeds of so many values."""
+    """A graph with an input and some vertices in a row, and feeds of `values` values."""
     names = [f"v{it}" for it in range(length)]
     vertices = [
         {"name": "a", "op": "input", "depth": 0},

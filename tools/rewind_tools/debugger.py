@@ -64,7 +64,7 @@ class Debugger:
         self.say(json.dumps(value, separators=(",", ":"), ensure_ascii=False))
 
     def note(self, text):
-        """Says what is no reply: beside replies as JSON, on standard error."""
+        """Says what is not a reply: beside replies as JSON, on standard error."""
         print(text, file=sys.stderr if self.is_raw else sys.stdout, flush=True)
 
     def show_progress(self, text):

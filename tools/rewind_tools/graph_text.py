@@ -59,7 +59,7 @@ NO_VERTICES = "# no vertices\n"
 
 
 class Wrong(Exception):
-    """A text or a value that is no graph: its words have the place and the reason."""
+    """A text or a value that is not a graph: its words have the place and the reason."""
 
 
 def at_place(number, column, why):
@@ -142,7 +142,7 @@ def read_name(line, of):
         odd = line.text[line.at : line.at + 1]
         if odd and odd not in ' \t([-]#"':
             raise line.wrong(f"a name with {values.shown(odd)} in it is written in quotation marks")
-    fault = "is no name" if re.search(r"[\ud800-\udfff]", name) else line.name_fault(name)
+    fault = "is not a name" if re.search(r"[\ud800-\udfff]", name) else line.name_fault(name)
     if fault:
         wrong = f"the name {values.shown(name)} {fault}; a name has 1 to 32 bytes, each from ! to ~"
         raise line.wrong(wrong, begin)
@@ -177,7 +177,7 @@ def read_op(line, name):
     if op not in OPS:
         near = nearest(op, OPS) if op else None
         hint = f"the nearest is {near}" if near else f"the operators are {listed(OPS)}"
-        is_none = f"{op} is no operator" if op else f"the operator of {name} is missing: {line.here()}"
+        is_none = f"{op} is not an operator" if op else f"the operator of {name} is missing: {line.here()}"
         raise line.wrong(f"{is_none}; {hint}", begin)
     given = {}
     while not line.take(")"):
@@ -204,7 +204,7 @@ def key_fault(op, key):
         return None
     if key in having:
         return f"{op} has no {key}, which is a key of {listed(having[key])}"
-    return f"{key} is no key of a vertex; the keys are {listed(['depth', *having])}"
+    return f"{key} is not a key of a vertex; the keys are {listed(['depth', *having])}"
 
 
 def read_vertex(line, parts):
@@ -280,14 +280,14 @@ def read_arrow(line):
                 raise line.wrong(f"the ']' after the name of an edge is missing: {line.here()}")
         elif key := line.take(KEY):
             if key not in ("port", "to"):
-                raise line.wrong(f"{key} is no key of an edge, which has port and to; {ARROWS}", at)
+                raise line.wrong(f"{key} is not a key of an edge, which has port and to; {ARROWS}", at)
             value = read_number(line, key)
         else:
             key, value = "route", line.take(WORD)
             if value is None:
                 raise line.wrong(f"the --> of an arrow is missing: {line.here()}; {ARROWS}")
             if value not in ("local", "exchange"):
-                raise line.wrong(f"{value} is no route: a route is local or exchange; {ARROWS}", at)
+                raise line.wrong(f"{value} is not a route: a route is local or exchange; {ARROWS}", at)
         if key in given:
             raise line.wrong(f"the {key} of an edge is given twice", at)
         given[key] = value
@@ -508,7 +508,7 @@ def graph_and_end(lines, begin, any_names=False):
 
 def with_json(script, any_names=False):
     """A script's bytes with the graph's line in place of a text of paths, and blank lines, so that all other
-    lines have their numbers; the same bytes, if the graph is no text."""
+    lines have their numbers; the same bytes, if the graph is not a text."""
     lines = script.split(b"\n")
     begin = graph_at(lines)
     if begin is None or not is_text(lines[begin]):

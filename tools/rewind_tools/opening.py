@@ -6,7 +6,7 @@
     script.queries                     how many queries were left out
     graph_refused(session)             why the session's graph was refused, in words; None if it was not
     for entry in executed(journal, script.lines):
-        entry.line, entry.reply        each line with its reply; entry.line.value is None if it is no JSON
+        entry.line, entry.reply        each line with its reply; entry.line.value is None if it is not JSON
     refusal(entry, teller)             why it was refused, with its number, its text and the reason; None if
                                        it was executed
 

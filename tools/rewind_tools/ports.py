@@ -17,8 +17,8 @@ PORT = re.compile(r"(.+)\.(in|out)([0-9]+)")
 
 
 class Operator(NamedTuple):
-    """An operator with so many inputs and outputs. 'leads' has the pairs of an input and an output that it
-    leads to, None for all; 'starts' says whether each output has a capability at the start."""
+    """An operator and how many inputs and outputs it has. 'leads' has the pairs of an input and an output
+    that it leads to, None for all; 'starts' says whether each output has a capability at the start."""
 
     name: str
     inputs: int

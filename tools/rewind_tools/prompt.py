@@ -101,10 +101,10 @@ class Prompt(cmd.Cmd, Debugger):
         return self.ask(line_of(words, self.defaults(words[0])))
 
     def no_command(self, word):
-        """The fault that a word is no command, with one that is like it."""
+        """The fault that a word is not a command, with one that is like it."""
         like = difflib.get_close_matches(word, [*FORMS, *self.own_words()], 1)
         meant = f" did you mean {like[0]}?" if like else ""
-        return NotTyped(f"{word} is no command;{meant} 'help' lists them")
+        return NotTyped(f"{word} is not a command;{meant} 'help' lists them")
 
     def defaults(self, word):
         """What stands for the values of a command that are not typed."""
@@ -129,7 +129,7 @@ class Prompt(cmd.Cmd, Debugger):
         try:
             value = json.loads(text)
         except ValueError as fault:
-            raise NotTyped(f"that is no JSON: {fault}") from fault
+            raise NotTyped(f"that is not JSON: {fault}") from fault
         return self.ask(value)
 
     def held(self):

@@ -108,7 +108,7 @@ def lines_of(script):
 
 
 def version_of(lines):
-    """The version that a script's first line tells; 1 if it tells none."""
+    """The version that a script's first line names; 1 if it names none."""
     value = lines[0].value if lines else None
     number = value.get("version") if isinstance(value, dict) and len(value) == 1 else None
     return number if type(number) is int and 2 <= number <= LAST else 1
@@ -146,7 +146,7 @@ def run_bytes(script, words):
 
 
 def replies_of(output):
-    """The replies of an output; none if it is no list of JSON objects, as the help is not."""
+    """The replies of an output; none if it is not a list of JSON objects, as the help is not."""
     replies = [json_of(it) for it in output.split(b"\n") if it]
     return replies if all(isinstance(it, dict) for it in replies) else []
 
@@ -190,7 +190,7 @@ def with_line(reply, number):
 
 
 def entries_asked(lines, queries, before, words):
-    """The entries of a run with the queries after each line but so many before the graph's, and how the
+    """The entries of a run with the queries after each line but the first `before`, and how the
     program ended."""
     given, widths = [], []
     for at, line in enumerate(lines):

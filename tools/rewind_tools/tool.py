@@ -56,7 +56,7 @@ class Parser(argparse.ArgumentParser):
 def number_up_to(most):
     def number(word):
         if not (word.isascii() and word.isdigit() and 1 <= int(word) <= most):
-            raise argparse.ArgumentTypeError(f"{word} is no number from 1 to {most}")
+            raise argparse.ArgumentTypeError(f"{word} is not a number from 1 to {most}")
         return int(word)
 
     return number
@@ -98,7 +98,7 @@ def read_script(path, any_names=False):
 
 
 def open_live(path, workers):
-    """Opens a script of so many workers in the browser, until that ends. tools/live ends with the tool."""
+    """Opens a script of `workers` workers in the browser, until that ends. tools/live ends with the tool."""
     live = os.path.join(os.path.dirname(os.path.dirname(os.path.realpath(__file__))), "live")
     with subprocess.Popen([live, path, "--processors", str(workers)]) as process:
         try:

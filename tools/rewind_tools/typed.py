@@ -12,7 +12,7 @@
     wanted(["feed", "0"])                        what may be typed next: [("feed", "vertex")]
 
 Values stand in the order of the grammar's keys. A time is its numbers with commas and no spaces, as 0 or
-0,1; a point is a location and a time; values end at the first word that is no number. A flag is its key
+0,1; a point is a location and a time; values end at the first word that is not a number. A flag is its key
 alone. NotTyped says what is missing or wrong, in words."""
 import shlex
 
@@ -59,7 +59,7 @@ HOLDS = {
 
 
 class NotTyped(Exception):
-    """A typed line is no command: its text says why."""
+    """A typed line is not a command: its text says why."""
 
 
 def words_of_line(text):
@@ -70,11 +70,11 @@ def words_of_line(text):
         raise NotTyped(f"{fault}".lower()) from fault
 
 
-def number(word, what="a whole number"):
+def number(word, what="an integer"):
     try:
         return int(word)
     except ValueError:
-        raise NotTyped(f"{word} is no number; wanted is {what}") from None
+        raise NotTyped(f"{word} is not a number; expected {what}") from None
 
 
 def time_of(word):
@@ -150,7 +150,7 @@ class Words:
         if name == "not":
             return {"not": self.literal()}
         if name not in ATOMS:
-            raise NotTyped(f"{name} is no condition; the conditions are {', '.join(ATOMS)}")
+            raise NotTyped(f"{name} is not a condition; the conditions are {', '.join(ATOMS)}")
         before = self.of, self.said, self.form
         self.of, self.said, self.form = name, name, atom_usage(name)
         inner = {key: self.value(ATOMS[name][key], key) for key in ATOM_KEYS[name]}

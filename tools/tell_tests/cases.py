@@ -71,7 +71,7 @@ HELD = json.dumps(graph([A, H, Z], [edge("ah", "a", "h"), edge("hz", "h", "z")])
 
 
 def nest(depth):
-    """A chain that enters so many loops, one within another."""
+    """A chain that enters `depth` loops, one within another."""
     names = [f"i{it}" for it in range(depth)]
     vertices = [
         A,
@@ -233,9 +233,9 @@ TOLD = {
         LINE, '{"do":"veiw","q":0}', '{"do":"Back"}', '{"Do":"back"}', '{"do":7}', '{"q":0}', "7",
         '{"do":"xyzzy"}',
     ], 0, [
-        (2, 'faulty, 31 BadShape: "veiw" is no command or query; the nearest is "view"'),
+        (2, 'faulty, 31 BadShape: "veiw" is not a command or query; the nearest is "view"'),
         (3, 'the nearest is "back"'),
-        (4, 'the key "Do" is to be "do"'), (5, '"do":7 is a number'), (6, 'the key "do" is missing'),
+        (4, 'the key "Do" should be "do"'), (5, '"do":7 is a number'), (6, 'the key "do" is missing'),
         (6, 'the nearest form is {"do":"view","q":0}'), (7, "7 is a number; a line is an object"),
         (8, "the words are feed, take,"),
     ]),
@@ -246,12 +246,12 @@ TOLD = {
         do("break", when={"pased": {}}), do("broadcast"),
     ], 0, [
         (2, 'the key "next" is missing: "next", "close" or "stay"'),
-        (2, 'right is {"do":"feed","p":0,"vertex":"a"'),
-        (3, 'the key "at" is too many'), (4, 'the key "tiem" is to be "time"'),
-        (5, 'the key "p" is to be "q"'),
+        (2, 'expected {"do":"feed","p":0,"vertex":"a"'),
+        (3, 'the key "at" is too many'), (4, 'the key "tiem" should be "time"'),
+        (5, 'the key "p" should be "q"'),
         (6, 'the key "time" of "passed" is missing'), (7, 'the nearest is "passed"'),
         (8, 'the key "p" is missing'),
-        (8, 'right is {"do":"broadcast","p":0}'),
+        (8, 'expected {"do":"broadcast","p":0}'),
     ]),
     "values that are kept": ([], [
         LINE, do("feed", p=3, vertex="b", values=[7, -8]), do("take", p=2, edge="az", tiem=[4], value=9),
@@ -262,32 +262,32 @@ TOLD = {
         do("search", when={"sink": 5}, lo=1, hi=2), '{"q":3}',
         do("feed", p=0, vertex="a", values=[10] * 40),
     ], 0, [
-        (2, 'right is {"do":"feed","p":3,"vertex":"b","values":[7,-8],"next":"next"}'),
-        (3, 'right is {"do":"take","p":2,"edge":"az","time":[4],"value":9}'),
-        (4, 'right is {"do":"frontier","q":6}'),
-        (5, 'right is {"do":"passed","q":0,"at":"a","time":[2]}'),
-        (6, 'right is {"do":"broadcast","p":0,"part":[["az",[1]]]}'),
-        (7, 'right is {"do":"search","when":{"sink":{"at_least":0,"value":6,"vertex":"a"}},'
+        (2, 'expected {"do":"feed","p":3,"vertex":"b","values":[7,-8],"next":"next"}'),
+        (3, 'expected {"do":"take","p":2,"edge":"az","time":[4],"value":9}'),
+        (4, 'expected {"do":"frontier","q":6}'),
+        (5, 'expected {"do":"passed","q":0,"at":"a","time":[2]}'),
+        (6, 'expected {"do":"broadcast","p":0,"part":[["az",[1]]]}'),
+        (7, 'expected {"do":"search","when":{"sink":{"at_least":0,"value":6,"vertex":"a"}},'
             '"lo":2,"hi":0,"workers":1}'),
-        (7, 'right is "when":{"sink":{"at_least":0,"value":6,"vertex":"a"}}'),
-        (8, 'right is {"do":"break","when":{"queue":{"at_least":0,"from":1,"to":2}}}'),
-        (9, 'right is {"do":"search","when":{"sink":{"at_least":0,"value":5,"vertex":"a"}},'
+        (7, 'expected "when":{"sink":{"at_least":0,"value":6,"vertex":"a"}}'),
+        (8, 'expected {"do":"break","when":{"queue":{"at_least":0,"from":1,"to":2}}}'),
+        (9, 'expected {"do":"search","when":{"sink":{"at_least":0,"value":5,"vertex":"a"}},'
             '"lo":1,"hi":2,"workers":1}'),
         (10, 'the nearest form is {"do":"view","q":3}'),
         (11, '"values":[10,10,10,10,10,10,10,10,10,10,10,10,...,"next":"next"}'),
     ]),
     "values that are kept, with clients": (["--clients", "2"],
         [*CLIENTS, '{"client":1,"do":"jump","too":5}'], 2, [
-        (4, 'right is {"client":1,"do":"jump","to":5}'),
+        (4, 'expected {"client":1,"do":"jump","to":5}'),
     ]),
     # words of other debuggers, and words without JSON
     "words of other debuggers": ([],
         [LINE, *map(do, ("help", "quit", "Continue", "next", "step", "undo")), '"help"', '"run"'], 0, [
-        (2, '"help" is no command or query; the commands of version 1 are feed, take, notice, broadcast, '
+        (2, '"help" is not a command or query; the commands of version 1 are feed, take, notice, broadcast, '
             'receive, back, redo, jump, run,'),
         (2, "the queries are state, count, before, view, frontier, passed, search version 8 adds send, "
             "release, export, why, changes, step, candidates, effect, turns, reach"),
-        (3, '"quit" is no command or query; the end of the input ends the run'),
+        (3, '"quit" is not a command or query; the end of the input ends the run'),
         (4, '{"do":"run","limit":1000} executes up to 1,000'),
         (5, '{"do":"run","limit":1} executes the next step, {"do":"redo"} a kept step again'),
         (6, '"step" came with version 3'),
@@ -300,27 +300,27 @@ TOLD = {
         [V3, LINE, do("help"), do("step"), do("step", at=7), "step 4", "why 1 z [2]", "c"], 0, [
         (3, "frontier, passed, search, export, why, changes, step version 8 adds send, release, candidates, "
             "effect, turns, reach; its first line is"),
-        (3, "docs/SCRIPT.md shows the form of each"), (4, 'right is {"do":"step","to":0}'),
-        (4, '{"do":"run","limit":1} executes the next step'), (5, 'right is {"do":"step","to":7}'),
-        (6, 'right is {"do":"step","to":4}'),
-        (7, 'right is {"do":"why","q":1,"at":"z","time":[2]}'),
-        (8, '"c" is no command or query; {"do":"run","limit":1000} executes'),
+        (3, "docs/SCRIPT.md shows the form of each"), (4, 'expected {"do":"step","to":0}'),
+        (4, '{"do":"run","limit":1} executes the next step'), (5, 'expected {"do":"step","to":7}'),
+        (6, 'expected {"do":"step","to":4}'),
+        (7, 'expected {"do":"why","q":1,"at":"z","time":[2]}'),
+        (8, '"c" is not a command or query; {"do":"run","limit":1000} executes'),
     ]),
     "words without JSON": ([],
         [LINE, "back", "help", "quit", "continue", "run 10", " Feed 1 a [7] close", "veiw 0", "jmp", "xyzzy",
             "why"], 0, [
-        (2, 'faulty, 30 BadLine: the line is not JSON; right is {"do":"back"}'),
-        (3, 'the line is not JSON, and "help" is no command'),
+        (2, 'faulty, 30 BadLine: the line is not JSON; expected {"do":"back"}'),
+        (3, 'the line is not JSON, and "help" is not a command'),
         (3, "the commands of version 1 are feed,"), (4, "the end of the input ends the run"),
         (5, '{"do":"run","limit":1000} executes'),
-        (6, 'right is {"do":"run","limit":10}'),
-        (7, 'right is {"do":"feed","p":1,"vertex":"a","values":[7],"next":"close"}'),
+        (6, 'expected {"do":"run","limit":10}'),
+        (7, 'expected {"do":"feed","p":1,"vertex":"a","values":[7],"next":"close"}'),
         (8, 'the nearest is "view" a line is an object that says what to do, as {"do":"view","q":0}'),
         (9, 'as {"do":"jump","to":0}'),
         (10, "the words are feed, take,"), (10, 'as {"do":"back"}'), (11, '"why" came with version 3'),
     ]),
     "clients' words": (["--clients", "2"], [*CLIENTS, "back"], 2,
-        [(4, 'the line is not JSON; right is {"client":0,"do":"back"}')]),
+        [(4, 'the line is not JSON; expected {"client":0,"do":"back"}')]),
     "clients' help": (["--clients", "2"], [*CLIENTS, '{"client":1,"do":"help"}'], 2, [
         (4, "run, break, unbreak several clients have no queries version 8 adds send, release; its first "
             "line is"),
@@ -335,14 +335,14 @@ TOLD = {
         do("feed", p=0, vertex="a", values=[5], next="Next"),
         do("broadcast", p=0, part=["a", [0]]), do("run", limit="9"),
     ], 0, [
-        (2, '"q":"0" is a text; right is a whole number from 0 to 4294967295'),
-        (3, '"q":1.0 is not written as a whole number'),
-        (4, '"q":-1 is below 0'), (5, '"q":4294967296 is above 4294967295'), (6, '"q":null is no number'),
-        (7, '"time":0 is a number; right is a list of the epoch and the loop counters'),
+        (2, '"q":"0" is a text; expected an integer from 0 to 4294967295'),
+        (3, '"q":1.0 is not written as an integer'),
+        (4, '"q":-1 is below 0'), (5, '"q":4294967296 is above 4294967295'), (6, '"q":null is not a number'),
+        (7, '"time":0 is a number; expected a list of the epoch and the loop counters'),
         (8, '"time":[] is empty'),
-        (9, '"to":-1 is below 0; right is a whole number from 0 to 18446744073709551615'),
+        (9, '"to":-1 is below 0; expected an integer from 0 to 18446744073709551615'),
         (10, f"is above {TOP}"),
-        (11, 'right is "next", "close" or "stay"'), (12, "right is a list of locations and times"),
+        (11, 'expected "next", "close" or "stay"'), (12, "expected a list of locations and times"),
         (13, '"limit":"9" is a text'),
     ]),
     "names": ([], [
@@ -351,11 +351,11 @@ TOLD = {
         do("count", at="qqq", time=[0]), do("before", **{"from": ["a", [0]], "to": ["ou", [0, 0]]}),
         do("break", when={"sink": {"at_least": 1, "value": 5, "vertex": "out-z"}}),
     ], 0, [
-        (2, 'faulty, 32 UnknownName: "in-smal" is no name of the graph; wanted is an edge; the nearest is '
+        (2, 'faulty, 32 UnknownName: "in-smal" is not a name in the graph; expected an edge; the nearest is '
             '"in-small"'),
-        (3, '"a-in" is an edge; wanted is a vertex'), (4, "wanted is a vertex or an edge"),
+        (3, '"a-in" is an edge; expected a vertex'), (4, "expected a vertex or an edge"),
         (5, 'the nearest is "out"'),
-        (6, '"out-z" is an edge; wanted is a vertex'),
+        (6, '"out-z" is an edge; expected a vertex'),
     ]),
     "times": ([], [
         json.dumps(ROUND), do("count", at="in", time=[0, 0]), do("count", at="in-small", time=[0]),
@@ -401,7 +401,7 @@ TOLD = {
         (6, "what are the kept steps? 2 kept steps, and the cursor is at 1"),
         (6, "1. processor 0 feeds 5 into a and gives up its token"),
         (6, "2. processor 0 broadcasts what is unsent at az (0) and a (0)"),
-        (7, 'BadShape: "step" came with version 3, and the script is of version 2; its first line is to be '
+        (7, 'BadShape: "step" came with version 3, and the script is of version 2; its first line must be '
             '{"version":3}'),
     ]),
     "why": (["--processors", "3"], [
@@ -431,7 +431,7 @@ TOLD = {
             "processor 2"),
         (16, "no step leads to position 0"),
         (17, "position 6 is past the last kept step"),
-        (18, '"y" is no name of the graph'), (19, 'right is {"do":"why","q":1,"at":"z","time":[0]}'),
+        (18, '"y" is not a name in the graph'), (19, 'expected {"do":"why","q":1,"at":"z","time":[0]}'),
     ]),
     "reasons": ([], [
         V3, SUM, do("feed", p=0, vertex="a", values=[2, 3, 3], next="close"),
@@ -453,9 +453,9 @@ TOLD = {
     ]),
     "a later query": ([],
         [LINE, do("why", q=0, at="z", time=[0]), do("export"), do("whi", q=0), '{"version":3}'], 0, [
-        (2, '"why" came with version 3, and the script is of version 1; its first line is to be '
+        (2, '"why" came with version 3, and the script is of version 1; its first line must be '
             '{"version":3}'),
-        (3, '"export" came with version 2'), (4, '"whi" is no command or query; the words are'),
+        (3, '"export" came with version 2'), (4, '"whi" is not a command or query; the words are'),
         (5, "before the graph alone"),
     ]),
     "another version": ([], ['{"version":9}', LINE], 2,
@@ -510,7 +510,7 @@ TOLD = {
         (11, "processor 0 does not know that all that is"),
         (11, "it still counts 1 at a (0); nothing is held there; not heard: an update of -1 by processor "
             "0, not yet broadcast"),
-        (12, '"y" is no name of the graph'), (13, "there is no processor 1"),
+        (12, '"y" is not a name in the graph'), (13, "there is no processor 1"),
     ]),
     "a notice and its view": ([], [
         V4, SUM, do("feed", p=0, vertex="a", values=[2], next="close"), do("run", limit=99),
@@ -567,9 +567,9 @@ TOLD = {
         do("why", q=0, at="z", time=[0], before=True), do("turns", lo=0), do("break", when={"view": {}}),
     ], 0, [
         (3, 'BadShape: "when" has the key "not", which came with version 4, and the script is of version 3'),
-        (4, 'the key "at" is too many the key "at" of frontier came with version 4 right is '
+        (4, 'the key "at" is too many the key "at" of frontier came with version 4 expected '
             '{"do":"frontier","q":0}'),
-        (5, 'the key "before" of why came with version 4 right is {"do":"why","q":0,"at":"z","time":[0]}'),
+        (5, 'the key "before" of why came with version 4 expected {"do":"why","q":0,"at":"z","time":[0]}'),
         (6, '"turns" came with version 4'), (7, 'has the key "view", which came with version 4'),
     ]),
     # version 5
@@ -626,9 +626,9 @@ TOLD = {
         (3, "processor 0 feeds 5 into a and goes on to epoch 1000"),
         (4, "refused: epoch 1000 is not above the token's, which is 1000"),
         (5, "processor 0's token of a goes from epoch 0 to 1000"),
-        (6, '"next":{"to":-1} has "to":-1, which is below 0; right is "next", "close", "stay" or {"to":1}'),
+        (6, '"next":{"to":-1} has "to":-1, which is below 0; expected "next", "close", "stay" or {"to":1}'),
         (7, '"next":{"too":5} is an object, and is to have the key "to" alone'),
-        (8, 'has "to":"5", which is a text'), (9, '"next":5 is a number; right is "next", "close"'),
+        (8, 'has "to":"5", which is a text'), (9, '"next":5 is a number; expected "next", "close"'),
     ]),
     "runs of some processors": (["--processors", "3"], [
         V5, EXCHANGE, do("feed", p=0, vertex="a", values=[3, 4], next="close"),
@@ -644,7 +644,7 @@ TOLD = {
         (6, "ran 0 steps, then stopped: nothing is enabled on processor 2"),
         (6, "left: enabled steps of processor 1, which did not run"),
         (7, "refused: there is no processor 3; there are the processors 0 to 2"),
-        (8, '"only":[] has 0 items; right is a list of 1 to 16 processors\' numbers'),
+        (8, '"only":[] has 0 items; expected a list of 1 to 16 processors\' numbers'),
         (9, "has 17 items"), (10, "has the item -1 at 0, which is below 0"), (11, '"only":1 is a number'),
     ]),
     "words of version 5": ([], [
@@ -653,33 +653,33 @@ TOLD = {
         do("release", p=0, vertex="h", time=[0], too=[3]), "release", do("run", limit=7, onyl=[0]),
         do("downgrade", p=0, vertex="h", time=[0]), "drop", "advance_to 5",
     ], 0, [
-        (3, '"relaese" is no command or query; the nearest is "release" right is {"do":"release","p":0,'
+        (3, '"relaese" is not a command or query; the nearest is "release" expected {"do":"release","p":0,'
             '"vertex":"h","time":[0]}'),
-        (4, 'right is {"do":"release","p":0,"vertex":"h","time":[0],"to":[3]}'),
+        (4, 'expected {"do":"release","p":0,"vertex":"h","time":[0],"to":[3]}'),
         (5, 'the key "vertex" is missing'), (5, 'the key "time" is missing'),
-        (6, '"hh" is no name of the graph; wanted is a vertex; the nearest is "h"'),
+        (6, '"hh" is not a name in the graph; expected a vertex; the nearest is "h"'),
         (7, 'the time [0,0] has 2 numbers; at "h"'), (7, "the time [1,0] has 2 numbers"),
-        (8, 'the key "too" is to be "to"'), (9, 'right is {"do":"release","p":0,"vertex":"a","time":[0]}'),
-        (10, 'the key "onyl" is to be "only" right is {"do":"run","limit":7,"only":[0]}'),
-        (11, '"downgrade" is no command or query; {"do":"release","p":0,"vertex":"h","time":[0],"to":[1]} '
-            'moves a held capability to a later time'),
-        (12, 'the line is not JSON, and "drop" is no command or query; {"do":"release","p":0,"vertex":"h",'),
+        (8, 'the key "too" should be "to"'), (9, 'expected {"do":"release","p":0,"vertex":"a","time":[0]}'),
+        (10, 'the key "onyl" should be "only" expected {"do":"run","limit":7,"only":[0]}'),
+        (11, '"downgrade" is not a command or query; {"do":"release","p":0,"vertex":"h","time":[0],'
+            '"to":[1]} moves a held capability to a later time'),
+        (12, 'the line is not JSON, and "drop" is not a command or query; {"do":"release","p":0,'),
         (13, '{"do":"feed","p":0,"vertex":"a","values":[],"next":{"to":5}} advances an input to epoch 5'),
     ]),
     "forms of version 5 in version 4": ([], [
         V4, LINE, do("release", p=0, vertex="a", time=[0]), do("run", limit=5, only=[0]),
         do("feed", p=0, vertex="a", values=[], next={"to": 5}),
     ], 0, [
-        (3, '"release" came with version 5, and the script is of version 4; its first line is to be '
+        (3, '"release" came with version 5, and the script is of version 4; its first line must be '
             '{"version":5}'),
-        (4, 'the key "only" is too many the key "only" of run came with version 5 right is '
+        (4, 'the key "only" is too many the key "only" of run came with version 5 expected '
             '{"do":"run","limit":5}'),
-        (5, '"next":{"to":5} came with version 5; right is "next", "close" or "stay"'),
+        (5, '"next":{"to":5} came with version 5; expected "next", "close" or "stay"'),
     ]),
     "a hold in version 4": ([], [V4, HELD], 2, [
         (2, 'faulty, 40 Shape: vertices[1] (h): "op":"hold" is none of these'),
         (2, 'vertices[1] (h): the op "hold" came with version 5, and the script is of version 4; its first '
-            'line is to be {"version":5}'),
+            'line must be {"version":5}'),
     ]),
     "a misspelled hold": ([], [V5, HELD.replace("hold", "hodl")], 2, [
         (2, 'vertices[1] (h): the nearest op is "hold"'),
@@ -703,7 +703,7 @@ TOLD = {
         [(4, '31 BadShape: the key "client" is missing')]),
     "a client's name": (["--clients", "2"],
         [*CLIENTS, '{"client":1,"do":"notice","p":0,"vertex":"y","time":[0]}'], 2, [
-        (4, '32 UnknownName: "y" is no name of the graph; wanted is a vertex'),
+        (4, '32 UnknownName: "y" is not a name in the graph; expected a vertex'),
     ]),
 }  # fmt: skip
 
@@ -721,7 +721,7 @@ GRAPH_FAULTS = {
     "two of a name": (graph([A, Z], [edge("z", "a", "z")]), 41,
         '"z" is the name of vertices[1] and of edges[0]'),
     "an end": (graph([A, Z], [edge("az", "a", "zz")]), 42,
-        '"to":"zz" is no vertex; the nearest vertex is "z"'),
+        '"to":"zz" is not a vertex; the nearest vertex is "z"'),
     "a port": (graph([A, Z], [edge("az", "a", "z", 1)]), 43, 'the edge "az" leaves the input "a" on port 1'),
     "a port of a split": (
         graph([A, vertex("half", "split", k=0), Z],

@@ -103,17 +103,17 @@ OPAQUE_TOLD = {
         release(to=[1], keep=1), send([1], vertex="xx"), send([1], at=[0, 1]), "send 0 x [0] 1 [5] [2]",
         "delayed", do("why", q=0, at="z", time=[0], keep=True),
     ], 0, [
-        (3, '"sned" is no command or query; the nearest is "send"'),
-        (4, 'the key "port" is missing: a whole number from 0 to 4294967295'),
-        (4, 'right is {"do":"send","p":0,"vertex":"x","time":[0],"port":0,"values":[1]}'),
+        (3, '"sned" is not a command or query; the nearest is "send"'),
+        (4, 'the key "port" is missing: an integer from 0 to 4294967295'),
+        (4, 'expected {"do":"send","p":0,"vertex":"x","time":[0],"port":0,"values":[1]}'),
         (5, 'the key "prot" is too many'), (6, '"port":-1 is below 0'),
-        (7, '"dest":null is no number, text, list or object'), (8, '"at":3 is a number'),
+        (7, '"dest":null is not a number, text, list or object'), (8, '"at":3 is a number'),
         (9, '"values":["1"] has the item "1" at 0, which is a text'),
         (10, 'the key "to" is missing'), (10, '"to":[0],"keep":true}'),
-        (11, '"keep":1 is a number; right is true or false'),
-        (12, '"xx" is no name of the graph; wanted is a vertex; the nearest is "x"'),
+        (11, '"keep":1 is a number; expected true or false'),
+        (12, '"xx" is not a name in the graph; expected a vertex; the nearest is "x"'),
         (13, 'the time [0,1] has 2 numbers; at "x", which lies in no loop, a time has 1 number'),
-        (14, 'right is {"do":"send","p":0,"vertex":"x","time":[0],"port":1,"values":[5],"at":[2]}'),
+        (14, 'expected {"do":"send","p":0,"vertex":"x","time":[0],"port":1,"values":[5],"at":[2]}'),
         (15, '"keep":true} makes a later capability from one that stays'),
         (16, 'the key "keep" is too many'),
     ]),
@@ -121,7 +121,7 @@ OPAQUE_TOLD = {
         V5, json.dumps(graph([A, Z], [edge("az", "a", "z")])), send([1], vertex="a"),
         release(vertex="a", to=[1], keep=True), release(vertex="a", keep=True),
     ], 0, [
-        (3, '"send" came with version 6, and the script is of version 5; its first line is to be '
+        (3, '"send" came with version 6, and the script is of version 5; its first line must be '
             '{"version":6}'),
         (4, 'the key "keep" of release came with version 6'),
         (5, 'the key "keep" of release came with version 6'),
@@ -143,15 +143,15 @@ OPAQUE_TOLD = {
     ], 0, [(2, "vertices: x (opaque, 0 ports)")]),
     "clients who send": (["--clients", "2"], [
         V6, SOURCE, send([5], client=0), release(to=[3], keep=True, client=0), send([5], port="a", client=0),
-    ], 2, [(5, '"port":"a" is a text; right is a whole number from 0 to 4294967295')]),
+    ], 2, [(5, '"port":"a" is a text; expected an integer from 0 to 4294967295')]),
 }  # fmt: skip
 
 OPAQUE_GRAPH_FAULTS = {
     "no ports": (graph([vertex("x", "opaque")], []), 40, 'vertices[0] (x): the key "ports" is missing'),
     "17 ports": (graph([vertex("x", "opaque", ports=17)], []), 40,
-        'vertices[0] (x): "ports":17 is above 16; right is a whole number from 0 to 16'),
+        'vertices[0] (x): "ports":17 is above 16; expected an integer from 0 to 16'),
     "a start": (graph([vertex("x", "opaque", ports=1, starts=1)], []), 40,
-        '"starts":1 is a number; right is true or false'),
+        '"starts":1 is a number; expected true or false'),
     "a hold that starts": (graph([vertex("h", "hold", starts=True)], []), 40,
         'vertices[0] (h): the key "starts" is too many'),
     "an opaque vertex with a number": (graph([vertex("x", "opaque", ports=1, k=1)], []), 40,

@@ -137,7 +137,7 @@ class Adapter(Asking, Breaking):
         if self.state not in states:
             raise Refused(f"{command} cannot come now: {WHY_NOT[self.state]}")
         if not isinstance(arguments, dict):
-            raise Refused("the arguments are no object")
+            raise Refused("the arguments are not an object")
         try:
             return method(self, arguments)
         except (LookupError, TypeError, ValueError, AttributeError) as fault:

@@ -110,7 +110,7 @@ class Asking:
             if context != "repl" and text in self.console.teller.graph.order:
                 return self.why(self.console.why_at(p, text), f"no time can still arrive at {text}")
             if context != "repl" and not is_question(text):
-                raise Refused(ASK_ONLY if self.console.is_known(text) else f"{text} is no location")
+                raise Refused(ASK_ONLY if self.console.is_known(text) else f"{text} is not a location")
             if words_of_line(text)[:1] == ["why"]:
                 return self.why(line_of(words_of_line(text)))
             return {"result": self.typed(text), "variablesReference": 0}

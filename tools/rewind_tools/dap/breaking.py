@@ -139,7 +139,7 @@ class Breaking:
             q, place, time = point["q"], point["at"], point["time"]
             entry = self.moving.breakpoints.set_entry(told["id"], q, place, time)
         except (ValueError, KeyError, TypeError):
-            return {**told, "verified": False, "message": "this is no entry of a view"}
+            return {**told, "verified": False, "message": "this is not an entry of a view"}
         except NotSet as fault:
             return {**told, "verified": False, "message": str(fault)}
         return {**told, "verified": True, "message": entry.words}

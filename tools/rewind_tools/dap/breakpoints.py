@@ -212,7 +212,7 @@ class Breakpoints:
                 it.id = None
 
     def run(self, limit, only=None):
-        """Runs at most so many new steps, until a breakpoint is hit: the stop of the program's reply, how
+        """Runs at most `limit` new steps, until a breakpoint is hit: the stop of the program's reply, how
         many steps ran, and the hit if there is one."""
         positions = [it - self.console.at for it in self.positions() if it > self.console.at]
         limit = min([limit, *positions])

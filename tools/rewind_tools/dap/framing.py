@@ -3,9 +3,9 @@
     read(stream)               the next request, None at the end of the stream
     Writer(stream).send(..)    writes a message, with its number
 
-A frame whose content is no request is left out (NoRequest). After a header that is wrong nothing else can be
-read (Broken). No header but Content-Length and Content-Type is read, so a page in a browser cannot send a
-request to the adapter's port: the lines of HTTP break the stream."""
+A frame whose content is not a request is left out (NoRequest). After a wrong header nothing else can be read
+(Broken). No header but Content-Length and Content-Type is read, so a page in a browser cannot send a request
+to the adapter's port: the lines of HTTP break the stream."""
 import json
 import threading
 
@@ -19,7 +19,7 @@ class Broken(Exception):
 
 
 class NoRequest(Exception):
-    """A message that is no request: its text says why."""
+    """A message that is not a request: its text says why."""
 
 
 def read(stream):
@@ -58,7 +58,7 @@ def read_length(stream):
 
 def length_of(text):
     if not text.isdigit() or len(text) > 20:
-        raise Broken("Content-Length is no number")
+        raise Broken("Content-Length is not a number")
     if int(text) > LARGEST:
         raise Broken(f"a message has {int(text)} bytes, and {LARGEST} at most are read")
     return int(text)
@@ -69,9 +69,9 @@ def request_of(body):
     try:
         value = json.loads(body)
     except (ValueError, RecursionError):
-        raise NoRequest("a message is no JSON, and is left out") from None
+        raise NoRequest("a message is not JSON, and is left out") from None
     if not isinstance(value, dict) or value.get("type") != "request":
-        raise NoRequest("a message is no request, and is left out")
+        raise NoRequest("a message is not a request, and is left out")
     if type(value.get("seq")) is not int or not isinstance(value.get("command"), str):
         raise NoRequest("a request has no number or no command, and is left out")
     return value

@@ -56,7 +56,7 @@ class Run:
         if worker not in range(len(self.traces)):
             return f"there is no worker {worker}; there are {len(self.traces)}, from 0 on"
         if wanted is None:
-            return f"{location} is no name of the graph"
+            return f"{location} is not a name in the graph"
         if len(time) != wanted + 1:
             return f"a time of {location} has {numbers(wanted + 1)}, as {','.join('0' * (wanted + 1))}"
         if max(time[1:], default=0) > MOST_COUNTER:

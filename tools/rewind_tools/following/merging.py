@@ -1,7 +1,7 @@
 """Which lines of the traces can be executed next, as far as that follows from the lines before them.
 
     merging = Merging(lines, places)
-    batch = merging.plan(100)         the next lines, with at most so many steps among them
+    batch = merging.plan(100)         the next lines, with at most 100 steps among them
     merging.trial(0)                  in place of it, if it is empty: the next line of a worker that waits
 
 A plan goes round the workers, and takes the next lines of each until one waits. It counts the records on the

@@ -50,7 +50,7 @@ class Trace:
             self.join()
 
     def is_cut_off(self):
-        """Whether the last line has no newline, and is no JSON."""
+        """Whether the last line has no newline, and is not JSON."""
         if not self.lines or self.lines[-1][0] <= self.bytes.count(b"\n"):
             return False
         text = self.lines[-1][1]
@@ -138,7 +138,7 @@ def own_fault(value, own, worker, places):
         return '"more" adds entries to "part", "change" or "is" of the line before it, which has these'
     if word not in STEPS + QUERIES:
         known = f'a trace has the lines {listed(map(shown, STEPS + QUERIES))}'
-        return f"{shown(word)} is no line of a trace; {known}" if word in FORMS else None
+        return f"{shown(word)} is not a line of a trace; {known}" if word in FORMS else None
     key = worker_key(word)
     number = value.get(key)
     if is_whole(number) and number != worker:
@@ -151,11 +151,11 @@ def own_fault(value, own, worker, places):
 
 
 def number_fault(it, value, places):
-    return None if is_whole(it) else f'"number" is {shown(it)}; it is to be a whole number from 0 up'
+    return None if is_whole(it) else f'"number" is {shown(it)}; it must be an integer from 0 up'
 
 
 def note_fault(it, value, places):
-    return None if isinstance(it, str) else f'"note" is {shown(it)}; it is to be a text'
+    return None if isinstance(it, str) else f'"note" is {shown(it)}; it must be a text'
 
 
 def change_fault(it, value, places):
@@ -165,16 +165,16 @@ def change_fault(it, value, places):
 def is_fault(it, value, places):
     """What is wrong with the members that a reply must have: with the names and times in them."""
     if not isinstance(it, dict):
-        return f'"is" is {shown(it)}; it is to be an object with members of the reply'
+        return f'"is" is {shown(it)}; it must be an object with members of the reply'
     for key in ("view", "frontier"):
         fault = entries_fault(key, it[key], places) if key in it else None
         if fault:
             return fault
     times, reasons = it.get("times", []), it.get("reasons", [])
     if not isinstance(times, list) or not isinstance(reasons, list):
-        return '"times" and "reasons" are to be lists'
+        return '"times" and "reasons" must be lists'
     if not all(isinstance(reason, dict) and "point" in reason for reason in reasons):
-        return 'each of "reasons" is to be an object with a "point"'
+        return 'each of "reasons" must be an object with a "point"'
     points = [[value["at"], time] for time in times] if "at" in value else []
     points += [reason["point"] for reason in reasons]
     points += [it["point"]] if "point" in it else []
@@ -184,7 +184,7 @@ def is_fault(it, value, places):
 def entries_fault(key, entries, places):
     """What is wrong with a list of locations, times and numbers."""
     if not isinstance(entries, list):
-        return f'"{key}" is {shown(entries)}; it is to be a list of entries as ["a",[0],1]'
+        return f'"{key}" is {shown(entries)}; it must be a list of entries as ["a",[0],1]'
     for it in entries:
         if not (isinstance(it, list) and len(it) == 3 and type(it[2]) is int):
             return f'"{key}" has {shown(it)}; an entry is a location, a time and a number, as ["a",[0],1]'
@@ -197,10 +197,10 @@ def entries_fault(key, entries, places):
 def point_fault(key, point, places):
     """What is wrong with a location and its time."""
     if not (isinstance(point, list) and len(point) == 2 and isinstance(point[0], str)):
-        return f'"{key}" has {shown(point)}; it is to be a location and a time, as ["a",[0]]'
+        return f'"{key}" has {shown(point)}; it must be a location and a time, as ["a",[0]]'
     name, time = point
     if name not in places.depths:
-        return f'"{key}" names {shown(name)}, which is no name of the graph'
+        return f'"{key}" names {shown(name)}, which is not a name in the graph'
     wanted = places.depths[name] + 1
     is_time = isinstance(time, list) and len(time) == wanted and is_whole(time[0])
     if is_time and all(is_whole(it, MOST_COUNTER) for it in time[1:]):

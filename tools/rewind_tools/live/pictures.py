@@ -256,4 +256,4 @@ class Pictures:
         """That a time has the wrong number of loop counters."""
         count = self.depths[place]
         wanted = "the epoch alone" if not count else f"the epoch and {count} loop counter{'s' * (count > 1)}"
-        return f"{time_in(time)} is no time of {place}, where a time is {wanted}"
+        return f"{time_in(time)} is not a time of {place}, where a time is {wanted}"

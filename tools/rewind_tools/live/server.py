@@ -130,7 +130,7 @@ class Live:
         pieces, `ran` is how many steps the pieces before ran."""
         value = json.loads(asked["line"])
         if not isinstance(value, dict) or value.get("do") not in COMMANDS:
-            raise Refused(400, "that is no command")
+            raise Refused(400, "that is not a command")
         self.check_revision(asked)
         before = self.at, self.kept
         reply, count = self.journal.ask(value)
@@ -365,7 +365,7 @@ class Handler(BaseHTTPRequestHandler):
         try:
             is_here = is_loopback(host_of(host))
         except ValueError as fault:
-            raise Refused(400, f"that is no host: {fault}") from fault
+            raise Refused(400, f"that is not a host: {fault}") from fault
         if not is_here:
             raise Refused(403, "this server answers no other host")
         if origin not in (None, f"http://{host}"):
@@ -396,7 +396,7 @@ class Handler(BaseHTTPRequestHandler):
             answer = self.server.live.answer(path, json.loads(self.rfile.read(int(length))))
             text = json.dumps(answer, ensure_ascii=False, separators=(",", ":")).encode()
         except (ValueError, KeyError, TypeError, AttributeError, RecursionError) as fault:
-            raise Refused(400, f"that is no question: {fault}") from fault
+            raise Refused(400, f"that is not a question: {fault}") from fault
         self.send(200, "application/json", text)
 
     def send(self, status, kind, body, **headers):

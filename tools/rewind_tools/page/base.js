@@ -73,11 +73,11 @@ function redrawn(element, ...parts) {
   if (at >= 0 && now.length) now[Math.min(at, now.length - 1)].focus();
 }
 
-// The whole numbers of a text as texts, or the first part of it that is none, or is out of range.
+// The integers of a text as texts, or the first part of it that is none, or is out of range.
 function numbersOf(text, least, greatest) {
   const parts = text.split(/[\s,]+/).filter(Boolean);
   const wrong = parts.find((it) => !/^-?\d+$/.test(it));
-  if (wrong !== undefined) return { fault: `"${wrong}" is no whole number` };
+  if (wrong !== undefined) return { fault: `"${wrong}" is not an integer` };
   const far = parts.find((it) => BigInt(it) < least || BigInt(it) > greatest);
   if (far !== undefined) return { fault: `${far} is not between ${least} and ${greatest}` };
   return { numbers: parts.map((it) => BigInt(it).toString()) };

@@ -385,7 +385,7 @@ function limit() {
   return null;
 }
 
-// The seed of a run by lot, as the text of a key and its value; empty for a run in turn, null if it is no seed.
+// The seed of a run by lot, as the text of a key and its value; empty for a run in turn, null if it is not a seed.
 function seedText() {
   if (by("choice").selectedIndex === 0) return "";
   const given = numbersOf(by("seed").value, 0n, GREATEST_SEED);

@@ -107,7 +107,7 @@ class Copy:
         return self.session.ask({"do": "step", "to": position})["step"]
 
     def picture(self, kept, stopped):
-        """The picture at the cursor, of so many kept steps; `stopped` is the id of the breakpoint at which a
+        """The picture at the cursor, of `kept` steps; `stopped` is the id of the breakpoint at which a
         run stopped."""
         sight = {"rows": ROWS, "effect": self.revision <= MOST_EFFECTS, "steps": False}
         told = self.pictures.of(self.at, kept, self.revision, sight)

@@ -4,7 +4,7 @@ from rewind_tools.telling.commands import at, time_in
 
 
 def number(count, has_sign=False):
-    """A whole number with a true minus; numbers are text, since a browser's numbers end at 53 bits."""
+    """An integer with a true minus; numbers are text, since a browser's numbers end at 53 bits."""
     sign = "\u2212" if count < 0 else "+" if has_sign else ""
     return f"{sign}{abs(count)}"
 

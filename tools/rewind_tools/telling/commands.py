@@ -205,7 +205,7 @@ WORDS = {
 
 
 def ports_words(count):
-    """The output ports of a vertex that has so many."""
+    """The output ports of a vertex that has `count`."""
     few = ("no port", "port 0 alone", "the ports 0 and 1")
     return few[count] if count < len(few) else f"the ports 0 to {count - 1}"
 
@@ -244,7 +244,7 @@ def command_words(value):
 
 
 def unread(text):
-    """A line that is no command, by its own text."""
+    """A line that is not a command, by its own text."""
     shown_text = text.decode(errors="backslashreplace").strip()
     cut = shown_text if len(shown_text) <= 70 else shown_text[:67] + "..."
     return "".join(it if it.isprintable() and it.isascii() else shown(it)[1:-1] for it in cut)

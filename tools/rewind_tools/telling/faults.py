@@ -84,7 +84,7 @@ def first_line_faults(text, teller):
 
 
 def text_faults(text, teller):
-    """What is wrong with a text that is no JSON."""
+    """What is wrong with a text that is not JSON."""
     words = texts.words_of_line(text)
     if words:
         return forms.typed_faults(words, teller.has_clients, teller.version)
@@ -107,7 +107,7 @@ FAULTS = {
     "UnknownName": lambda value, teller: names.unknown_names(teller.graph, value),
     "BadTime": lambda value, teller: names.wrong_times(teller.graph, value),
     "BadClient": lambda value, teller: [
-        f"\"client\" is {value['client']}, and is to be below the number of clients"
+        f"\"client\" is {value['client']}, and must be below the number of clients"
     ],
     "OneClientOnly": lambda value, teller: [
         f"\"{value['do']}\" is a query or a search; with several clients there are none"

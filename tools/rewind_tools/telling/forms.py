@@ -31,7 +31,7 @@ PLACE = ("the name of a vertex or an edge, a text", values.text)
 TIME = ("a list of the epoch and the loop counters, each from 0 to 4294967295", values.time)
 POINT = ('a location and a time, as ["a",[0]]', values.point)
 POINTS = ('a list of locations and times, as [["a",[0]]]', values.list_of(values.point))
-VALUES = ("a list of whole numbers of 64 bits, with their sign", values.list_of(SIGNED[1]))
+VALUES = ("a list of integers of 64 bits, with their sign", values.list_of(SIGNED[1]))
 NEXT, NEXT_OR_TO = values.one_of_before_to(NEXT_TO_SINCE, *NEXTS), values.one_of_or_to(*NEXTS)
 PROCESSORS = (f"a list of 1 to {MOST_ONLY} processors' numbers", values.processors(MOST_ONLY))
 WHEN = ("a condition", lambda value: None)
@@ -134,7 +134,7 @@ def keys_faults(value, form, where=""):
     """What is wrong with the keys of an object that is to have those of a form, each fault in words."""
     meant = meant_keys(value, form)
     faults = [
-        f"the key {shown(key)}{where} is {'to be ' + shown(it) if it else 'too many'}"
+        f"the key {shown(key)}{where} {'should be ' + shown(it) if it else 'is too many'}"
         for key, it in meant.items()
     ]
     missing = [key for key in missing_keys(value, form) if key not in meant.values()]
@@ -147,7 +147,7 @@ def value_faults(value, form):
     for key, (words, fault_of) in form.items():
         wrong = fault_of(value[key]) if key in value else None
         if wrong:
-            faults.append(f"{shown(key)}:{shown(value[key])} {wrong}; right is {words}")
+            faults.append(f"{shown(key)}:{shown(value[key])} {wrong}; expected {words}")
     return faults
 
 
@@ -158,7 +158,7 @@ def when_faults(value, version):
     name, inner = next(iter(value.items()))
     if not isinstance(inner, list):
         right = f"{{{shown(name)}:[{atom_shown('passed')}]}}"
-        return [f"{shown(name)}:{shown(inner)} {values.kind_of(inner)}; right is a list, as {right}"]
+        return [f"{shown(name)}:{shown(inner)} {values.kind_of(inner)}; expected a list, as {right}"]
     if not 1 <= len(inner) <= MOST_LITERALS:
         return [f"{shown(name)} has {len(inner)} conditions; it may have 1 to {MOST_LITERALS}"]
     return [
@@ -179,17 +179,17 @@ def atom_faults(value, version, where):
     """What keeps a value from being an atom."""
     if not isinstance(value, dict):
         start = f"{where}:{shown(value)}" if where == '"when"' else f"{where}, {shown(value)},"
-        return [f'{start} {values.kind_of(value)}; right is an object, as {atom_shown("passed")}']
+        return [f'{start} {values.kind_of(value)}; expected an object, as {atom_shown("passed")}']
     atoms = atoms_of(version)
     known = [key for key in value if key in atoms]
     if len(value) != 1 or not known:
         return [f"{where} {wrong_atom(value, version, where)}"]
     name, inner = known[0], value[known[0]]
     if not isinstance(inner, dict):
-        return [f"{shown(name)}:{shown(inner)} {values.kind_of(inner)}; right is {atom_shown(name)}"]
+        return [f"{shown(name)}:{shown(inner)} {values.kind_of(inner)}; expected {atom_shown(name)}"]
     faults = keys_faults(inner, ATOMS[name], f" of {shown(name)}") + value_faults(inner, ATOMS[name])
     right = '"when":' if where == '"when"' else ""
-    return faults + [f"right is {right}{atom_shown(name, inner)}"] if faults else []
+    return faults + [f"expected {right}{atom_shown(name, inner)}"] if faults else []
 
 
 def wrong_atom(value, version, where):
@@ -261,7 +261,7 @@ def line_shown(word, value=None, has_clients=False, version=LAST):
 def came_with(what, since, version):
     """That something came with a later version than the script's, and the first line that it needs."""
     return (
-        f"{what} came with version {since}, and the script is of version {version}; its first line is to be"
+        f"{what} came with version {since}, and the script is of version {version}; its first line must be"
         f' {{"version":{since}}}'
     )
 
@@ -272,7 +272,7 @@ def word_faults(value, has_clients, version):
     if "do" not in value:
         near = nearest("do", [key for key in value if key.lower() == "do"])
         if near:
-            return [f'the key {shown(near)} is to be "do"']
+            return [f'the key {shown(near)} should be "do"']
         if value.keys() == {"version"}:
             return ["a version line stands before the graph alone"]
         form = likeliest(value, known)
@@ -280,7 +280,7 @@ def word_faults(value, has_clients, version):
         return [f'the key "do" is missing, which says what to do{hint}']
     word = value["do"]
     if values.text(word):
-        return [f'"do":{shown(word)} {values.text(word)}; right is one of the words {listed(known)}']
+        return [f'"do":{shown(word)} {values.text(word)}; expected one of the words {listed(known)}']
     if word in known:
         return []
     other = habits.instead(word, version, has_clients)
@@ -288,12 +288,12 @@ def word_faults(value, has_clients, version):
         came = came_with(shown(word), SINCE[word], version)
         return [came, *(other if not FORMS[word].keys() & value.keys() else [])]
     if other:
-        return [f"{shown(word)} is no command or query; {other[0]}", *other[1:]]
+        return [f"{shown(word)} is not a command or query; {other[0]}", *other[1:]]
     near = nearest(word, known)
     hint = f"; the nearest is {shown(near)}" if near else f"; the words are {listed(known)}"
     has_values = near and FORMS[near].keys() & value.keys()
-    right = [f"right is {line_shown(near, value, has_clients, version)}"] if has_values else []
-    return [f"{shown(word)} is no command or query{hint}", *right]
+    right = [f"expected {line_shown(near, value, has_clients, version)}"] if has_values else []
+    return [f"{shown(word)} is not a command or query{hint}", *right]
 
 
 def likeliest(value, known):
@@ -325,7 +325,7 @@ def shape_faults(value, has_clients, version=LAST):
     form = line_form(value["do"], has_clients, version)
     faults = keys_faults(value, form)
     if faults:
-        faults += later_keys(value, version) + [f"right is {form_shown(form, value, version)}"]
+        faults += later_keys(value, version) + [f"expected {form_shown(form, value, version)}"]
         if not FORMS[value["do"]].keys() & value.keys():
             faults += habits.instead(value["do"], version, has_clients)
     faults += value_faults(value, form)
@@ -343,7 +343,7 @@ def typed_faults(words, has_clients, version):
     word, known = words[0].lower(), words_of(version)
     if word in known:
         right = line_shown(word, typed_values(words[1:], form_of(word, version)), has_clients, version)
-        return [f"the line is not JSON; right is {right}", *habits.instead(word, version, has_clients)]
+        return [f"the line is not JSON; expected {right}", *habits.instead(word, version, has_clients)]
     wrong = word_faults({"do": word}, has_clients, version)
     faults = [f"the line is not JSON, and {wrong[0]}", *wrong[1:]]
     if word in FORMS or habits.instead(word, version, has_clients):

@@ -89,7 +89,7 @@ def shape_faults(graph, version):
 
 def part_faults(value, is_vertex, version):
     if not isinstance(value, dict):
-        return [f"it {values.kind_of(value)}, and is to be an object"]
+        return [f"it {values.kind_of(value)}, and must be an object"]
     form = form_of_vertex(value, version) if is_vertex else EDGE
     return (
         keys_faults(value, form)
@@ -99,7 +99,7 @@ def part_faults(value, is_vertex, version):
 
 
 def op_hint(op, version):
-    """Of a text that is no op of the version, with which version it came, or the nearest op."""
+    """Of a text that is not an op of the version, with which version it came, or the nearest op."""
     if not isinstance(op, str) or op in ops_of(version):
         return []
     if op in OPS_SINCE:
@@ -149,7 +149,7 @@ def unknown_names(graph):
                     if near
                     else f"; the vertices are {listed(map(shown, vertices))}"
                 )
-                what = "is an edge and no vertex" if edge[key] in edges else "is no vertex"
+                what = "is an edge and no vertex" if edge[key] in edges else "is not a vertex"
                 faults.append(
                     f"the edge {shown(edge['name'])}: {shown(key)}:{shown(edge[key])} {what}{hint}"
                 )

@@ -107,7 +107,7 @@ def unknown_names(graph, value):
 
 def unknown_name(graph, name, wanted, known):
     """That a name is not known, with what is wanted and the nearest that there is."""
-    said = f"{shown(name)} is {graph.kind(name) or 'no name of the graph'}; wanted is {one(wanted)}"
+    said = f"{shown(name)} is {graph.kind(name) or 'not a name in the graph'}; expected {one(wanted)}"
     near = nearest(name, known)
     if near:
         return f"{said}; the nearest is {shown(near)}"

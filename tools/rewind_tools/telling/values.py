@@ -38,9 +38,9 @@ def raw(value):
 def kind_of(value):
     """What a value is, in words."""
     if value is None or isinstance(value, bool):
-        return "is no number, text, list or object"
+        return "is not a number, text, list or object"
     if isinstance(value, Written):
-        return "is not written as a whole number"
+        return "is not written as an integer"
     for kind, words in ((str, "is a text"), (list, "is a list"), (dict, "is an object")):
         if isinstance(value, kind):
             return words
@@ -48,7 +48,7 @@ def kind_of(value):
 
 
 def number(limits):
-    """The kind of the whole numbers between two limits: its words, and what is wrong with a value."""
+    """The kind of the integers between two limits: its words, and what is wrong with a value."""
     low, high = limits
 
     def fault(value):
@@ -58,7 +58,7 @@ def number(limits):
             return f"is below {low}"
         return f"is above {high}" if value > high else None
 
-    return f"a whole number from {low} to {high}", fault
+    return f"an integer from {low} to {high}", fault
 
 
 def flag(value):
@@ -91,7 +91,7 @@ def time(value):
 
 
 def processors(most):
-    """What is wrong with a list of at least one processor's number and at most so many."""
+    """What is wrong with a list of at least one processor's number and at most `most`."""
 
     def fault(value):
         if isinstance(value, list) and not 1 <= len(value) <= most:

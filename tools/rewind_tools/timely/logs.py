@@ -34,7 +34,7 @@ class Misread(Exception):
 
 
 class Unreadable(Misread):
-    """A file is no log."""
+    """A file is not a log."""
 
     name = "unreadable"
 
@@ -46,7 +46,7 @@ class Unsupported(Misread):
 
 
 class NoEvent(Exception):
-    """A line is no event: why."""
+    """A line is not an event: why."""
 
 
 class Operator(NamedTuple):
@@ -107,7 +107,7 @@ def wanted(value, keys):
 
 def tested(is_right, value, key, form):
     if not is_right:
-        raise NoEvent(f'"{key}" is {shown(value[key])}; it is to be {form}')
+        raise NoEvent(f'"{key}" is {shown(value[key])}; it must be {form}')
 
 
 def scope_of(value):
@@ -169,7 +169,7 @@ class Reader:
             try:
                 self.line(number, json.loads(str(text, "utf-8")))
             except (ValueError, RecursionError):
-                raise Unreadable(log.path, number, "it is no JSON") from None
+                raise Unreadable(log.path, number, "it is not JSON") from None
             except NoEvent as why:
                 raise Unreadable(log.path, number, str(why)) from None
         return log
