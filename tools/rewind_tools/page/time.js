@@ -1,7 +1,7 @@
 "use strict";
 // Who knows what, from where on: a lane for each processor along the steps, and one for the truth. Above it the
 // overview of the whole run, and the times that can still arrive, as each processor knows them.
-const FEWEST = 8, COMMON = 60, MOST_LISTED = 400, WIDEST_STEP = 64, LEFT = 92, RIGHT = 12, LETTER = 6.4, BINS = 300, STAIRS = 46;
+const FEWEST = 8, COMMON = 60, MOST_LISTED = 400, LEFT = 92, RIGHT = 12, LETTER = 6.4, BINS = 300, STAIRS = 46;
 // Which steps are in sight: how many, and from which on, null for those around the cursor; chosen at which cursor.
 const view = { count: COMMON, first: null, of: null };
 // What is known of all kept steps, and the question that it answers.
@@ -21,7 +21,7 @@ function plotWidth() {
 
 // Where the step that leads to a position stands among those in sight, and in the overview.
 function stepWidth() {
-  return Math.min(WIDEST_STEP, plotWidth() / Math.max(1, picture.steps.last - picture.steps.first + 1));
+  return plotWidth() / Math.max(1, picture.steps.last - picture.steps.first + 1);
 }
 
 function x(position) {

@@ -5,12 +5,12 @@ from html import escape
 STYLE = """
 svg {
   --ground: #ffffff; --ink: #1b2330; --soft: #566273; --rim: #8b98a8; --box: #f4f6f9;
-  --loop: #dfe8f3; --deep: #c6d6ea; --accent: #0b5cb8; --bad: #b3261e;
+  --loop: #dfe8f3; --deep: #c6d6ea; --accent: #0b5cb8;
 }
 @media (prefers-color-scheme: dark) {
   svg {
     --ground: #12161c; --ink: #e7ebf1; --soft: #a3afbf; --rim: #6b7889; --box: #161b22;
-    --loop: #26313e; --deep: #374658; --accent: #7fbcff; --bad: #ff9a90;
+    --loop: #26313e; --deep: #374658; --accent: #7fbcff;
   }
 }
 .ground { fill: var(--ground); }
@@ -20,19 +20,16 @@ text { font: 13px sans-serif; fill: var(--ink); text-anchor: middle; }
 .head { font-weight: bold; }
 .soft { fill: var(--soft); }
 .accent { fill: var(--accent); }
-.bad { fill: var(--bad); font-weight: bold; }
 .start { text-anchor: start; }
 .end { text-anchor: end; }
 .line { fill: none; stroke: var(--rim); stroke-width: 1.5; }
 .thick { stroke: var(--accent); stroke-width: 2; }
 .dashed { stroke-dasharray: 6 4; }
 .box { fill: var(--box); stroke: var(--rim); stroke-width: 1.2; }
-.bad-box { stroke: var(--bad); stroke-width: 2; }
 .loop { fill: var(--loop); stroke: none; }
 .loop-edge { fill: none; stroke: var(--loop); }
 .deep { fill: var(--deep); stroke: none; }
 .deep-edge { fill: none; stroke: var(--deep); }
-.dot { fill: var(--accent); }
 .tip { fill: var(--rim); }
 .thick-tip { fill: var(--accent); }
 """
@@ -71,10 +68,6 @@ def curve(points, classes="line", tip="tip", wide=None):
     rest = " ".join(f"{number(x)},{number(y)}" for x, y in points[1:])
     end = f' stroke-width="{wide}" stroke-linecap="round"' if wide else f' marker-end="url(#{tip})"'
     return f'<path class="{classes}" d="M{number(points[0][0])},{number(points[0][1])} C{rest}"{end}/>\n'
-
-
-def dot(x, y):
-    return f'<circle cx="{number(x)}" cy="{number(y)}" r="5" class="dot"/>\n'
 
 
 def moved(x, y, parts):
