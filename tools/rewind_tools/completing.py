@@ -1,6 +1,7 @@
 """What Tab offers at the prompt: what may stand at this place of the line."""
 import glob
 import os
+import shlex
 
 from rewind_tools.script import ATOMS, FORMS, HOLDING, NEXTS, USERS
 from rewind_tools.typed import JOINTS, NotTyped, wanted, words_of_line
@@ -49,11 +50,13 @@ def of_kind(prompt, of, kind):
     if kind in ("small", "processors"):
         return map(str, range(prompt.teller.processors))
     if kind == "vertex":
-        return [name for name, it in graph.vertices.items() if it["op"] in OPS.get(of, [it["op"]])]
+        found = [name for name, it in graph.vertices.items() if it["op"] in OPS.get(of, [it["op"]])]
+        return map(shlex.quote, found)
     if kind in MARKS:
         return [kind]
+    edges, places = map(shlex.quote, graph.edges), [*map(shlex.quote, graph.order)]
     fixed = {
-        "edge": graph.edges, "place": graph.order, "points": graph.order, "point": graph.order,
+        "edge": edges, "place": places, "points": places, "point": places,
         "next": [*NEXTS, "to"], "when": [*ATOMS, "not"], "joint": JOINTS, "users": USERS,
     }  # fmt: skip
     return fixed.get(kind, [])

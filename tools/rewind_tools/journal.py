@@ -230,7 +230,9 @@ class Journal:
         return compact({"do": "jump", "to": self.at}) + b"\n" if self.at < self.kept else b""
 
     def script(self):
-        return (self.head() + self.jump()).decode()
+        """The script as ./rewind reads it: with short names, if the program does not take those of the
+        graph."""
+        return (self.session.names.given(self.head()) + self.jump()).decode()
 
     def saved(self):
         """Notes that a file of the person's has the kept steps."""

@@ -83,7 +83,7 @@ def graph_refused(session):
     reply = session.started
     if "error" not in reply:
         return None
-    why = graph_faults.graph_faults(session.graph, reply, session.version)
+    why = graph_faults.graph_faults(session.names.graph, reply, session.version)
     name = f"{reply['code']} {reply['error']}"
     return f"the graph is refused: {why[0]} ({name})" if why else f"the graph is refused, {name}"
 

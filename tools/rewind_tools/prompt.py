@@ -292,7 +292,7 @@ class Prompt(cmd.Cmd, Debugger):
         path = self.file("load", rest)
         with open(path, "rb") as it:
             script = self.read_script(path, it.read())
-        if script.graph != self.session.graph:
+        if script.graph not in (self.session.graph, self.session.names.graph):
             what = "has no graph" if script.graph is None else "has another graph than this session"
             raise NotTyped(f"{path} {what}: nothing is executed; 'tools/repl {path}' opens it")
         gone = self.journal.around(lambda: self.execute(script))
@@ -303,7 +303,7 @@ class Prompt(cmd.Cmd, Debugger):
     def read_script(self, path, script):
         """A script's graph and lines."""
         try:
-            return opening.read(graph_text.with_json(script), places_of(path))
+            return opening.read(graph_text.with_json(script, any_names=True), places_of(path))
         except graph_text.Wrong as wrong:
             raise NotTyped(f"{path}: {wrong}") from wrong
 

@@ -10,7 +10,8 @@
 
 The program is ./rewind, or what REWIND_PROGRAM names in the environment. It runs in a session of its own, so
 Ctrl-C at the terminal reaches the tool alone; and it ends with the tool, however that ends. Another thread
-may kill it: whoever waits for a reply then gets Ended."""
+may kill it: whoever waits for a reply then gets Ended. A name of the graph that the program does not take
+has a short one there (short_names.py), of which nobody else hears."""
 import contextlib
 import ctypes
 import itertools
@@ -24,6 +25,7 @@ from concurrent.futures import ThreadPoolExecutor
 
 from rewind_tools.runs import NOTES, PROGRAM, environment
 from rewind_tools.script import LAST
+from rewind_tools.short_names import Names
 
 # How often the notes of ./rewind are looked for while the program starts, and how much of them is read.
 SECONDS_BETWEEN, MOST_SAID = 0.5, 1 << 20
@@ -56,7 +58,7 @@ class Session:
     each note of ./rewind is given to `on_note`."""
 
     def __init__(self, graph, words=(), version=LAST, on_note=None):
-        self.graph, self.words, self.version = graph, list(words), version
+        self.graph, self.words, self.version, self.names = graph, list(words), version, Names(graph)
         self.errors = tempfile.TemporaryFile()
         parent = os.getpid()
         how = {"stdin": subprocess.PIPE, "stdout": subprocess.PIPE, "stderr": self.errors}
@@ -93,6 +95,7 @@ class Session:
 
     def ask_lines(self, texts):
         """The same, each reply as the line that it is."""
+        texts = texts if not self.names.short else [self.names.given(it) for it in texts]
         text = b"".join(it + b"\n" for it in texts)
         if len(text) <= PIPE_BYTES:
             self.write(text)
@@ -115,7 +118,7 @@ class Session:
         lines = list(itertools.islice(self.process.stdout, count))
         if len(lines) < count or not all(it.endswith(b"\n") for it in lines[-1:]):
             raise Ended(self.end_words())
-        return lines
+        return lines if not self.names.short else [self.names.told(it) for it in lines]
 
     def said(self):
         """What the program has written to standard error so far, without the notes of ./rewind."""

@@ -35,6 +35,8 @@ class Names:
             self.graph = {key: [self.renamed(it) for it in graph[key]] for key in graph}
         pairs = [(json.dumps(it).encode(), json.dumps(short).encode()) for it, short in self.short.items()]
         self.by_name, self.by_short = dict(pairs), {short: it for it, short in pairs}
+        plain = {json.dumps(it, ensure_ascii=False).encode(): short for it, short in self.short.items()}
+        self.by_name |= {it: json.dumps(short).encode() for it, short in plain.items()}
 
     def shortened(self, name):
         port = PORT.fullmatch(name)

@@ -274,7 +274,7 @@ class Adapter(Asking, Breaking):
         """Opens the session of a script, whose lines are not executed yet."""
         try:
             program = self.given["program"]
-            script = opening.read(tool.read_script(program), places_of(program))
+            script = opening.read(tool.read_script(program, any_names=True), places_of(program))
         except (tool.Fault, OSError) as fault:
             raise Refused(tool.words_of(fault) if isinstance(fault, OSError) else str(fault)) from fault
         if script.graph is None:
