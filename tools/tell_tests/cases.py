@@ -233,7 +233,7 @@ TOLD = {
         LINE, '{"do":"veiw","q":0}', '{"do":"Back"}', '{"Do":"back"}', '{"do":7}', '{"q":0}', "7",
         '{"do":"xyzzy"}',
     ], 0, [
-        (2, 'faulty, 31 BadShape: "veiw" is not a command or query; the nearest is "view"'),
+        (2, "(31 BadShape)"), (2, 'faulty: "veiw" is not a command or query; the nearest is "view"'),
         (3, 'the nearest is "back"'),
         (4, 'the key "Do" should be "do"'), (5, '"do":7 is a number'), (6, 'the key "do" is missing'),
         (6, 'the nearest form is {"do":"view","q":0}'), (7, "7 is a number; a line is an object"),
@@ -309,21 +309,22 @@ TOLD = {
     "words without JSON": ([],
         [LINE, "back", "help", "quit", "continue", "run 10", " Feed 1 a [7] close", "veiw 0", "jmp", "xyzzy",
             "why"], 0, [
-        (2, 'faulty, 30 BadLine: the line is not JSON; expected {"do":"back"}'),
+        (2, "(30 BadLine)"), (2, 'faulty: the line is not JSON; expected {"do":"back"}'),
         (3, 'the line is not JSON, and "help" is not a command'),
         (3, "the commands of version 1 are feed,"), (4, "the end of the input ends the run"),
         (5, '{"do":"run","limit":1000} executes'),
         (6, 'expected {"do":"run","limit":10}'),
         (7, 'expected {"do":"feed","p":1,"vertex":"a","values":[7],"next":"close"}'),
-        (8, 'the nearest is "view" a line is an object that says what to do, as {"do":"view","q":0}'),
+        (8, 'the nearest is "view" (30 BadLine) a line is an object that says what to do, as {"do":"view",'
+            '"q":0}'),
         (9, 'as {"do":"jump","to":0}'),
         (10, "the words are feed, take,"), (10, 'as {"do":"back"}'), (11, '"why" came with version 3'),
     ]),
     "clients' words": (["--clients", "2"], [*CLIENTS, "back"], 2,
         [(4, 'the line is not JSON; expected {"client":0,"do":"back"}')]),
     "clients' help": (["--clients", "2"], [*CLIENTS, '{"client":1,"do":"help"}'], 2, [
-        (4, "run, break, unbreak several clients have no queries version 8 adds send, release; its first "
-            "line is"),
+        (4, "run, break, unbreak (31 BadShape) several clients have no queries version 8 adds send, "
+            "release; its first line is"),
         (4, 'as {"client":0,"do":"back"}'),
     ]),
     "kinds": ([], [
@@ -351,7 +352,8 @@ TOLD = {
         do("count", at="qqq", time=[0]), do("before", **{"from": ["a", [0]], "to": ["ou", [0, 0]]}),
         do("break", when={"sink": {"at_least": 1, "value": 5, "vertex": "out-z"}}),
     ], 0, [
-        (2, 'faulty, 32 UnknownName: "in-smal" is not a name in the graph; expected an edge; the nearest is '
+        (2, "(32 UnknownName)"),
+        (2, 'faulty: "in-smal" is not a name in the graph; expected an edge; the nearest is '
             '"in-small"'),
         (3, '"a-in" is an edge; expected a vertex'), (4, "expected a vertex or an edge"),
         (5, 'the nearest is "out"'),
@@ -362,26 +364,28 @@ TOLD = {
         do("take", p=0, edge="out-z", time=[0, 1], value=5),
         do("broadcast", p=0, part=[["a", [0]], ["next", [0, 0, 0]]]),
     ], 0, [
-        (2, 'faulty, 34 BadTime: the time [0,0] has 2 numbers; at "in", which lies in no loop, a time has 1 '
+        (2, "(34 BadTime)"),
+        (2, 'faulty: the time [0,0] has 2 numbers; at "in", which lies in no loop, a time has 1 '
             'number'),
         (3, 'at "in-small", at depth 1, a time has 2 numbers: the epoch and a loop counter'),
         (4, 'at "out-z", which lies in no loop'),
         (5, 'the time [0,0,0] has 3 numbers; at "next", at depth 1, a time has 2'),
     ]),
     "texts": ([], [LINE, '{"do":back}', '{"do":"back"', " " + '"' + "x" * 65536 + '"'], 0, [
-        (2, "faulty, 30 BadLine: it breaks as JSON at column 7"), (3, "at column 13"),
-        (4, "faulty, 33 LineTooLong: the line has 65539 bytes; at most 65536 may be"),
+        (2, "(30 BadLine)"), (2, "faulty: it breaks as JSON at column 7"), (3, "at column 13"),
+        (4, "(33 LineTooLong)"), (4, "faulty: the line has 65539 bytes; at most 65536 may be"),
     ]),
     # the graph's place
     "a command first": ([], [do("back"), LINE], 2, [
-        (1, 'faulty, 40 Shape: the first line must be the graph, as '
+        (1, "(40 Shape)"), (1, 'faulty: the first line must be the graph, as '
             '{"vertices":[{"name":"a","op":"input","depth":0}],"edges":[]}'),
         (1, "commands and queries come after it"),
     ]),
     "a command after the version": ([], [V2, do("back")], 2,
-        [(2, "40 Shape: the first line after the version line must be the graph")]),
+        [(2, "(40 Shape)"), (2, "faulty: the first line after the version line must be the graph")]),
     "a word first": ([], ["help"], 2,
-        [(1, "30 BadLine: the first line must be the graph"), (1, "the commands of version 1 are feed,")]),
+        [(1, "(30 BadLine)"),
+        (1, "faulty: the first line must be the graph"), (1, "the commands of version 1 are feed,")]),
     "help first": ([], [do("help")], 2,
         [(1, "the first line must be the graph"), (1, "the commands of version 1 are feed,")]),
     "a faulty text first": ([], ['{"do":back}'], 2,
@@ -391,7 +395,9 @@ TOLD = {
     "a number first": ([], ["7"], 2, [(1, "the first line must be the graph"), (1, "7 is a number")]),
     "a client's command first": (["--clients", "2"], ['{"client":0,"do":"back"}'], 2,
         [(1, "the first line must be the graph")]),
-    "no graph": ([], ['{"vertices":'], 2, [(1, "faulty, 30 BadLine: it breaks as JSON at column 13")]),
+    "no graph": ([], ['{"vertices":'], 2, [
+        (1, "faulty: it breaks as JSON at column 13"), (1, "(30 BadLine)"),
+    ]),
     # versions 2 and 3
     "export": ([], [
         V2, LINE, FEED, do("broadcast", p=0, part=[["az", [0]], ["a", [0]]]), do("back"), do("export"),
@@ -401,7 +407,8 @@ TOLD = {
         (6, "what are the kept steps? 2 kept steps, and the cursor is at 1"),
         (6, "1. processor 0 feeds 5 into a and gives up its token"),
         (6, "2. processor 0 broadcasts what is unsent at az (0) and a (0)"),
-        (7, 'BadShape: "step" came with version 3, and the script is of version 2; its first line must be '
+        (7, "BadShape)"),
+        (7, 'faulty: "step" came with version 3, and the script is of version 2; its first line must be '
             '{"version":3}'),
     ]),
     "why": (["--processors", "3"], [
@@ -459,9 +466,9 @@ TOLD = {
         (5, "before the graph alone"),
     ]),
     "another version": ([], ['{"version":9}', LINE], 2,
-        [(1, 'faulty, 40 Shape: a version line is {"version":N} alone, N from 2 to 8')]),
+        [(1, "(40 Shape)"), (1, 'faulty: a version line is {"version":N} alone, N from 2 to 8')]),
     "a version twice": ([], [V2, V2, LINE], 2,
-        [(1, "of version 2"), (2, "faulty, 40 Shape: a version line is")]),
+        [(1, "of version 2"), (2, "(40 Shape)"), (2, "faulty: a version line is")]),
     "a version alone": ([], [V3], 0, [
         (1, "this is a script of version 3"),
         (1, "the graph is missing: the first line after the version line must be the graph"),
@@ -471,15 +478,15 @@ TOLD = {
     "a deep graph": ([], [DEEP], 2,
         [(1, '"z" is at depth 5; at most 4 may be; in later versions at most 6')]),
     "nine processors": (["--processors", "9"], [LINE], 2,
-        [(1, "48 BadCount: a script of version 1 has at most 8 processors")]),
+        [(1, "(48 BadCount)"), (1, "faulty: a script of version 1 has at most 8 processors")]),
     "clients of a version": (["--clients", "2"], [V2, *CLIENTS], 0, [
         (1, "this is a script of version 2"), (2, "the graph"),
         (3, "line 3, client 0: processor 0 feeds 5 into a"), (4, "undo the last"),
     ]),
     "clients' export": (["--clients", "2"], [V2, *CLIENTS, '{"client":1,"do":"export"}'], 2,
-        [(5, '36 OneClientOnly: "export"')]),
+        [(5, "(36 OneClientOnly)"), (5, 'faulty: "export"')]),
     "clients' refused graph": (["--clients", "2"], [V2, DEEPER, '{"client":1,"do":"back"}'], 2, [
-        (2, '45 TooLarge: the ingress "i6" is at depth 6, the greatest'),
+        (2, "(45 TooLarge)"), (2, 'faulty: the ingress "i6" is at depth 6, the greatest'),
         (2, '"z" is at depth 7; at most 6 may be'),
     ]),
     # version 4
@@ -555,7 +562,7 @@ TOLD = {
         (4, "warning: what is said of it never holds: there is no processor 2"),
         (4, "warning: what is said of it always holds: there is no processor 3"),
         (5, "warning: what is said of it always holds"),
-        (6, '31 BadShape: "all" has 0 conditions; it may have 1 to 8'),
+        (6, "(31 BadShape)"), (6, 'faulty: "all" has 0 conditions; it may have 1 to 8'),
         (7, "at position 0 it does not hold and that does not change up to position 0"),
         (7, "at which of the positions 0 to 0 does it begin or cease to hold that at least 1 of records"),
         (10, "at position 0 it does not hold it begins to hold at 1"), (11, "50 BadRange"),
@@ -566,8 +573,9 @@ TOLD = {
         do("frontier", q=0, at="z"),
         do("why", q=0, at="z", time=[0], before=True), do("turns", lo=0), do("break", when={"view": {}}),
     ], 0, [
-        (3, 'BadShape: "when" has the key "not", which came with version 4, and the script is of version 3'),
-        (4, 'the key "at" is too many the key "at" of frontier came with version 4 expected '
+        (3, "BadShape)"),
+        (3, 'faulty: "when" has the key "not", which came with version 4, and the script is of version 3'),
+        (4, 'the key "at" is too many (31 BadShape) the key "at" of frontier came with version 4 expected '
             '{"do":"frontier","q":0}'),
         (5, 'the key "before" of why came with version 4 expected {"do":"why","q":0,"at":"z","time":[0]}'),
         (6, '"turns" came with version 4'), (7, 'has the key "view", which came with version 4'),
@@ -653,14 +661,14 @@ TOLD = {
         do("release", p=0, vertex="h", time=[0], too=[3]), "release", do("run", limit=7, onyl=[0]),
         do("downgrade", p=0, vertex="h", time=[0]), "drop", "advance_to 5",
     ], 0, [
-        (3, '"relaese" is not a command or query; the nearest is "release" expected {"do":"release","p":0,'
-            '"vertex":"h","time":[0]}'),
+        (3, '"relaese" is not a command or query; the nearest is "release" (31 BadShape) expected {"do":'
+            '"release","p":0,"vertex":"h","time":[0]}'),
         (4, 'expected {"do":"release","p":0,"vertex":"h","time":[0],"to":[3]}'),
         (5, 'the key "vertex" is missing'), (5, 'the key "time" is missing'),
         (6, '"hh" is not a name in the graph; expected a vertex; the nearest is "h"'),
         (7, 'the time [0,0] has 2 numbers; at "h"'), (7, "the time [1,0] has 2 numbers"),
         (8, 'the key "too" should be "to"'), (9, 'expected {"do":"release","p":0,"vertex":"a","time":[0]}'),
-        (10, 'the key "onyl" should be "only" expected {"do":"run","limit":7,"only":[0]}'),
+        (10, 'the key "onyl" should be "only" (31 BadShape) expected {"do":"run","limit":7,"only":[0]}'),
         (11, '"downgrade" is not a command or query; {"do":"release","p":0,"vertex":"h","time":[0],'
             '"to":[1]} moves a held capability to a later time'),
         (12, 'the line is not JSON, and "drop" is not a command or query; {"do":"release","p":0,'),
@@ -672,12 +680,12 @@ TOLD = {
     ], 0, [
         (3, '"release" came with version 5, and the script is of version 4; its first line must be '
             '{"version":5}'),
-        (4, 'the key "only" is too many the key "only" of run came with version 5 expected '
+        (4, 'the key "only" is too many (31 BadShape) the key "only" of run came with version 5 expected '
             '{"do":"run","limit":5}'),
         (5, '"next":{"to":5} came with version 5; expected "next", "close" or "stay"'),
     ]),
     "a hold in version 4": ([], [V4, HELD], 2, [
-        (2, 'faulty, 40 Shape: vertices[1] (h): "op":"hold" is none of these'),
+        (2, "(40 Shape)"), (2, 'faulty: vertices[1] (h): "op":"hold" is none of these'),
         (2, 'vertices[1] (h): the op "hold" came with version 5, and the script is of version 4; its first '
             'line must be {"version":5}'),
     ]),
@@ -688,7 +696,8 @@ TOLD = {
         (2, 'vertices[1] (h): the key "k" is too many'),
     ]),
     "a hold's second port": ([], [V5, HELD.replace('"from": "h", "port": 0', '"from": "h", "port": 1')], 2, [
-        (2, 'faulty, 43 BadPort: the edge "hz" leaves the hold "h" on port 1, which has port 0 alone'),
+        (2, "(43 BadPort)"),
+        (2, 'faulty: the edge "hz" leaves the hold "h" on port 1, which has port 0 alone'),
     ]),
     # several clients
     "clients": (["--clients", "2"], CLIENTS, 0, [
@@ -696,14 +705,14 @@ TOLD = {
         (3, "the cursor is at 0 of 1 kept step"),
     ]),
     "a client's number": (["--clients", "2"], [*CLIENTS, '{"client":2,"do":"back"}'], 2,
-        [(4, '35 BadClient: "client" is 2')]),
+        [(4, "(35 BadClient)"), (4, 'faulty: "client" is 2')]),
     "a client's query": (["--clients", "2"], [*CLIENTS, '{"client":1,"do":"state"}'], 2,
-        [(4, '36 OneClientOnly: "state"')]),
+        [(4, "(36 OneClientOnly)"), (4, 'faulty: "state"')]),
     "no client": (["--clients", "2"], [*CLIENTS, '{"do":"back"}'], 2,
-        [(4, '31 BadShape: the key "client" is missing')]),
+        [(4, "(31 BadShape)"), (4, 'faulty: the key "client" is missing')]),
     "a client's name": (["--clients", "2"],
         [*CLIENTS, '{"client":1,"do":"notice","p":0,"vertex":"y","time":[0]}'], 2, [
-        (4, '32 UnknownName: "y" is not a name in the graph; expected a vertex'),
+        (4, "(32 UnknownName)"), (4, 'faulty: "y" is not a name in the graph; expected a vertex'),
     ]),
 }  # fmt: skip
 
@@ -726,7 +735,7 @@ GRAPH_FAULTS = {
     "a port of a split": (
         graph([A, vertex("half", "split", k=0), Z],
             [edge("ah", "a", "half"), edge("hz", "half", "z", 1), edge("h2", "half", "z", 2)]),
-        43, 'BadPort: the edge "h2" leaves the split "half" on port 2, which has the ports 0 and 1',
+        43, 'the edge "h2" leaves the split "half" on port 2, which has the ports 0 and 1',
     ),
     "into an input": (graph([A, S], [edge("sa", "s", "a")]), 43,
         'the edge "sa" enters "a", which is an input'),
@@ -736,7 +745,7 @@ GRAPH_FAULTS = {
     "an edge out of a loop": (
         graph([A, vertex("in", "ingress"), vertex("out", "egress", 1), vertex("z", "sink", 1)],
               [edge("ai", "a", "in"), edge("io", "in", "out"), edge("oz", "out", "z")]),
-        44, 'DepthMismatch: the edge "oz" leaves the egress "out" of depth 1 with depth 0 and enters "z", '
+        44, 'the edge "oz" leaves the egress "out" of depth 1 with depth 0 and enters "z", '
             'which is at depth 1',
     ),
     "no loop to leave": (graph([vertex("e", "egress")], []), 44, 'the egress "e" is at depth 0'),

@@ -127,13 +127,14 @@ OPAQUE_TOLD = {
         (5, 'the key "keep" of release came with version 6'),
     ]),
     "an opaque vertex in version 4": ([], [V4, TRACED], 2, [
-        (2, 'faulty, 40 Shape: vertices[1] (x): "op":"opaque" is none of these'),
+        (2, "(40 Shape)"), (2, 'faulty: vertices[1] (x): "op":"opaque" is none of these'),
         (2, 'vertices[1] (x): the op "opaque" came with version 6, and the script is of version 4'),
     ]),
     "a graph of 65 locations in version 5": ([], [
         V5, json.dumps(graph([vertex(f"z{n}", "sink") for n in range(65)], [])),
     ], 2, [
-        (2, "45 TooLarge: there are 65 vertices and edges; at most 64 may be; in version 8 at most 256"),
+        (2, "(45 TooLarge)"),
+        (2, "faulty: there are 65 vertices and edges; at most 64 may be; in version 8 at most 256"),
     ]),
     "a graph of 256 locations": ([], [
         V6, json.dumps(graph([A, *(vertex(f"z{n}", "sink") for n in range(255))], [])),

@@ -14,7 +14,7 @@ import time
 from rewind_tools.script import LAST
 from rewind_tools.session import Session, VersionRefused
 from rewind_tools.short_names import Names
-from rewind_tools.telling.faults import faulty
+from rewind_tools.telling.faults import named
 from rewind_tools.telling.graph_faults import graph_faults
 from rewind_tools.tool import Fault
 
@@ -43,7 +43,7 @@ class Program:
         self.version, reply = self.session.version, self.session.started
         if "error" in reply:
             self.close()
-            raise GraphRefused(*faulty(reply, graph_faults(self.names.graph, reply, self.version)))
+            raise GraphRefused(*named(reply, graph_faults(self.names.graph, reply, self.version)))
 
     def start(self, on_note):
         self.on_note, self.noted = on_note, set()

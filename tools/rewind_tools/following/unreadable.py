@@ -20,8 +20,7 @@ def said(unreadable, program, workers):
         sentences = [unreadable.why]
     else:
         teller = Teller(names.Graph(program.graph, program.version), workers, False, program.version)
-        sentences = faults.faulty(unreadable.reply, wrong(unreadable, text, teller))
-        sentences[0] = sentences[0].removeprefix("faulty, ")
+        sentences = faults.named(unreadable.reply, wrong(unreadable, text, teller))
     return [(head, 0, BOLD), *((it, 4, "" if at else RED) for at, it in enumerate(sentences))]
 
 

@@ -50,9 +50,15 @@ def is_known(value):
 
 
 def faulty(reply, faults):
+    """What is wrong, a sentence each, with the fault's name after the first."""
+    name = f"{reply['code']} {reply['error']}"
+    return [f"faulty: {faults[0]} ({name})", *faults[1:]] if faults else [f"faulty, {name}"]
+
+
+def named(reply, faults):
     """The fault's name, then what is wrong, a sentence each."""
-    start = f"faulty, {reply['code']} {reply['error']}"
-    return [f"{start}: {faults[0]}", *faults[1:]] if faults else [start]
+    name = f"{reply['code']} {reply['error']}"
+    return [f"{name}: {faults[0]}", *faults[1:]] if faults else [name]
 
 
 def faults_in(text, faults_of):

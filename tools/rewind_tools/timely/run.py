@@ -55,8 +55,7 @@ class Run:
         try:
             return Program(graph, len(self.logs), on_note)
         except GraphRefused as why:
-            words = "; ".join(it.removeprefix("faulty, ") for it in why.sentences)
-            words = f"the program refuses the graph: {words}"
+            words = f"the program refuses the graph: {'; '.join(why.sentences)}"
             raise logs.Unsupported(self.first_path(), None, words) from why
 
     def first_path(self):
