@@ -3,8 +3,9 @@ of the next row or the row before, at the same height.
 
     wrapped(drawn, nodes, labels, 1400)      the sizes of nodes and labels, and how wide a row may be
 
-A row ends between two boxes. Each edge has a list of curves, one for each row that it passes, and notes:
-where its name stands in rows that it passes without its label."""
+A row ends between two boxes, and in none of those that are to stay whole. Each edge has a list of curves,
+one for each row that it passes, and notes: where its name stands in rows that it passes without its
+label."""
 from typing import NamedTuple
 
 ROW_GAP = 20
@@ -127,10 +128,10 @@ def notes_of(found, rows, label_row):
     return notes
 
 
-def wrapped(drawn, nodes, labels, width):
+def wrapped(drawn, nodes, labels, width, whole=()):
     """The layout in rows; in one row, if it is not too wide."""
     boxes = boxes_of(drawn, nodes, labels)
-    cuts = cuts_of(boxes, width) if drawn.width > width else []
+    cuts = cuts_of([*boxes, *whole], width) if drawn.width > width else []
     if not cuts:
         curves = {it: [points] for it, points in drawn.paths.items()}
         bands = [(0.0, drawn.height)]

@@ -6,7 +6,7 @@ import json
 import os
 from html import escape
 
-from rewind_tools.showing.graphs import graph_svg, laid_out
+from rewind_tools.showing.graphs import graph_svg, laid_out, prefix_of, without_prefix
 
 FOLDER = os.path.dirname(os.path.abspath(__file__))
 SHARED = ("base.js", "time.js", "drawing.js", "panels.js", "address.js")
@@ -58,10 +58,13 @@ def filled(kind, values):
 
 def graph_of(graph, uses_dot=True):
     """The values of a page that are about its graph."""
+    prefix, graph = prefix_of(graph), without_prefix(graph)
     svg = graph_svg(graph, laid_out(graph, uses_dot))
     has_loops = any(it["depth"] for it in graph["vertices"])
     loops = '<span class="key"><i class="loop"></i>a loop</span>' if has_loops else ""
-    return {"graph": svg, "loops": loops}
+    asks = "click a vertex or an edge to ask about it"
+    said = f"all names begin with {escape(prefix)}" if prefix else asks
+    return {"graph": svg, "loops": loops, "prefix": said}
 
 
 def live_page(graph, name, processors):

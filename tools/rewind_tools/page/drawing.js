@@ -1,6 +1,6 @@
 "use strict";
 // The graph: what stands at each place, what changed there, what was asked about, and its size.
-const COUNT_LETTER = 7.3, LARGEST_FIT = 1.5, LEAST_FIT = 0.8, SMALLEST_ZOOM = 0.3, LARGEST_ZOOM = 4;
+const COUNT_LETTER = 7.3, LARGEST_FIT = 1.5, LEAST_FIT = 0.75, SMALLEST_ZOOM = 0.3, LARGEST_ZOOM = 4;
 const graph = document.querySelector(".graph"), frame = document.querySelector("#drawing .wide");
 // How much larger the graph is than it was laid out; null to fit it into its frame.
 let zoom = null;
@@ -65,8 +65,9 @@ function showChangedPlace() {
 }
 
 function fitting() {
-  const high = Math.max(LEAST_FIT, frame.clientHeight / Number(graph.dataset.height));
-  return Math.min(LARGEST_FIT, frame.clientWidth / Number(graph.dataset.width), high);
+  const wide = Math.min(LARGEST_FIT, frame.clientWidth / Number(graph.dataset.width));
+  const high = frame.clientHeight / Number(graph.dataset.height);
+  return high < LEAST_FIT ? wide : Math.min(wide, high);
 }
 
 function showZoom() {

@@ -1,12 +1,14 @@
 """A dataflow graph as an SVG: its vertices and edges, with a place for the counts at each."""
 import json
+import os
+import re
 import shutil
 import subprocess
 from html import escape
 
 from rewind_tools.layout import Drawn, Edge, layout, tidy
 from rewind_tools.ports import operators_of
-from rewind_tools.showing.loops import loop_svg, loops_of, operator_svg
+from rewind_tools.showing.loops import around, inner_boxes, loop_svg, loops_of, operator_svg
 from rewind_tools.telling.commands import op_words
 from rewind_tools.wrapping import wrapped
 
@@ -15,6 +17,7 @@ COUNT_LETTERS = 12
 # How wide rows may be, and how much wider a graph may be that stands in one row.
 WIDEST, SLACK = 900, 1.2
 RIM = 20  # the room around the graph
+LEAST_PREFIX = 4  # the shortest prefix of all names that is shown once
 # What makes an element one with a name of its own, and one that is pressed.
 NAMED, PRESSED = 'role="group" aria-label="the graph"', 'role="button" tabindex="0"'
 
@@ -29,6 +32,23 @@ def kind_of(vertex):
 
 def port_of(edge):
     return f" port {edge['port']}" if edge["port"] else ""
+
+
+def prefix_of(graph):
+    """What all names begin with, up to a mark between parts of names; "" if that is short."""
+    names = [it["name"] for it in graph["vertices"] + graph["edges"]]
+    found = re.match(r".*[/.:_-]", os.path.commonprefix(names)) if len(names) > 2 else None
+    return found[0] if found and len(found[0]) >= LEAST_PREFIX else ""
+
+
+def without_prefix(graph):
+    """The graph with the names as they are shown; its places keep their order."""
+    cut = len(prefix_of(graph))
+    if not cut:
+        return graph
+    vertices = [{**it, "name": it["name"][cut:]} for it in graph["vertices"]]
+    edges = [{**it, **{key: it[key][cut:] for key in ("name", "from", "to")}} for it in graph["edges"]]
+    return {"vertices": vertices, "edges": edges}
 
 
 def sizes_of(graph):
@@ -65,9 +85,7 @@ def dot_source(graph, boxes, labels):
     lines = ['digraph { rankdir=LR; nodesep=0.25; ranksep=0.22; node [shape=box, fixedsize=true, label=""];']
     for name, at in number.items():
         lines.append(f"v{at} [width={boxes[name][0] / 72:.3f}, height={boxes[name][1] / 72:.3f}];")
-    for at, (_, inside) in enumerate(loops_of(graph)):
-        vertices = "; ".join(f"v{number[it]}" for it in inside)
-        lines.append(f"subgraph cluster{at} {{ margin=14; {vertices} }}")
+    lines += clusters(loops_of(graph), number, 1)
     for at, it in enumerate(graph["edges"]):
         wide, high = labels[it["name"]]
         box = (
@@ -76,6 +94,17 @@ def dot_source(graph, boxes, labels):
         )
         lines.append(f"v{number[it['from']]} -> v{number[it['to']]} [id={at}, label=<{box}>];")
     return "\n".join([*lines, "}"])
+
+
+def clusters(loops, number, depth):
+    """A cluster for each of the loops of a depth, with those in it."""
+    lines = []
+    for _, inside in [it for it in loops if it[0] == depth]:
+        inner = [it for it in loops if it[0] > depth and set(it[1]) <= set(inside)]
+        vertices = "; ".join(f"v{number[it]}" for it in inside)
+        within = " ".join(clusters(inner, number, depth + 1))
+        lines.append(f"subgraph cluster_{depth}_{number[inside[0]]} {{ margin=14; {within} {vertices} }}")
+    return lines
 
 
 def by_dot(graph, boxes, labels):
@@ -114,9 +143,10 @@ def path_text(points):
 
 def graph_svg(graph, drawn):
     """The graph's picture. Each place has its number in the order of listing, by which the counts are filled
-    in. A graph that is too wide stands in rows."""
+    in. A graph that is too wide stands in rows; no loop is torn that is not too wide itself."""
     boxes, labels = sizes_of(graph)
-    drawn = wrapped(drawn, boxes, labels, WIDEST if drawn.width > SLACK * WIDEST else drawn.width)
+    width = WIDEST if drawn.width > SLACK * WIDEST else drawn.width
+    drawn = wrapped(drawn, boxes, labels, width, loop_boxes(graph, drawn, (boxes, labels), width))
     parts = [loop_svg(graph, drawn, (boxes, labels), *it) for it in loops_of(graph)]
     parts += [operator_svg(graph, drawn, (boxes, labels), it) for it in operators_of(graph).values()]
     parts += [
@@ -143,6 +173,13 @@ def graph_svg(graph, drawn):
     size += f' data-width="{wide:g}" data-height="{high:g}"'
     start = f'<svg xmlns="http://www.w3.org/2000/svg" class="graph" {NAMED} {size}>'
     return f"{start}{head}{''.join(parts)}</svg>"
+
+
+def loop_boxes(graph, drawn, sizes, width):
+    """The boxes around the loops that fit into a row, each as its left, right, top and bottom."""
+    found = [inner_boxes(graph, drawn, sizes, inside) for _, inside in loops_of(graph)]
+    boxes = [(*around(it, RIM)[::2], *around(it, RIM)[1::2]) for it in found]
+    return [it for it in boxes if it[1] - it[0] <= width]
 
 
 def edge_svg(edge, curves, number):

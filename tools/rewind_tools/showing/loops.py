@@ -76,13 +76,20 @@ def grounds(found):
     return f'<g class="rim">{ground}</g>{ground}'
 
 
-def frames_of(graph, drawn, sizes, inside, rim):
-    """The boxes around some vertices and the edges between them."""
+def inner_boxes(graph, drawn, sizes, inside):
+    """The boxes of some vertices and of the labels of the edges between them."""
     boxes, labels = sizes
     edges = [it for it in graph["edges"] if it["from"] in inside and it["to"] in inside]
     inner = [box_of(drawn.nodes[it], boxes[it]) for it in inside]
-    inner += [box_of(drawn.labels[it["name"]], labels[it["name"]]) for it in edges]
+    return inner + [box_of(drawn.labels[it["name"]], labels[it["name"]]) for it in edges]
+
+
+def frames_of(graph, drawn, sizes, inside, rim):
+    """The boxes around some vertices and the edges between them."""
+    boxes, _ = sizes
+    edges = [it for it in graph["edges"] if it["from"] in inside and it["to"] in inside]
     curves = [it for edge in edges for it in drawn.curves[edge["name"]]]
+    inner = inner_boxes(graph, drawn, sizes, inside)
     inner += [around([(x, y, x, y) for x, y in it], 0) for it in curves]
     others = [box_of(drawn.nodes[it], boxes[it]) for it in boxes if it not in inside]
     return frames(drawn, inner, others, rim)

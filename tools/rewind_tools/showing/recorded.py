@@ -288,7 +288,7 @@ def page_of(
     has_form = start or any("location" in it.reply for it in told.entries[:1])
     graph = told.graph if has_form else {"vertices": [], "edges": []}
     count = start.get("processors", 0)
-    none = {"graph": "<p>The program has read no graph.</p>", "loops": ""}
+    none = {"graph": "<p>The program has read no graph.</p>", "loops": "", "prefix": ""}
     drawn = graph_of(graph, uses_dot) if has_form else none
     about = {"processors": count, "places": places_of(graph), "name": name}
     run = recorded(told, script, words, report, marks, places or {})
