@@ -9,7 +9,6 @@ import tempfile
 
 from rewind_tools import sources, tool
 from rewind_tools.session import write_text
-from rewind_tools.showing.recorded import page_of
 
 # How many steps a page shows at most.
 MOST = 5_000
@@ -43,6 +42,8 @@ def keep(write, given, workers, page):
 
 def write_page(path, script, workers, page):
     """Writes the page of a script that is saved."""
+    from rewind_tools.showing.recorded import page_of  # which is long to load, and seldom wanted
+
     with open(script, "rb") as it:
         text = it.read()
     if text.count(b"\n") > MOST:
