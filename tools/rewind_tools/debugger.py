@@ -9,7 +9,7 @@ from rewind_tools.journal import Journal, Stopped
 from rewind_tools.script import STEPS
 from rewind_tools.telling import faults, names
 from rewind_tools.telling.answers import Teller
-from rewind_tools.telling.commands import FIRM, command_words, counted
+from rewind_tools.telling.commands import command_words, counted, plain
 from rewind_tools.telling.effects import effect_words
 from rewind_tools.telling.reasons import rest_words
 from rewind_tools.telling.table import queues_and_sinks, table
@@ -58,7 +58,7 @@ class Debugger:
     at, kept = property(lambda it: it.journal.at), property(lambda it: it.journal.kept)
 
     def say(self, text):
-        print(text.replace(FIRM, " "), flush=True)
+        print(plain(text), flush=True)
 
     def say_json(self, value):
         self.say(json.dumps(value, separators=(",", ":"), ensure_ascii=False))

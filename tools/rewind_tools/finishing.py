@@ -12,7 +12,7 @@ from typing import NamedTuple
 
 from rewind_tools.at_rest import LAST_COUNTER, MOST
 from rewind_tools.script import MOST_LITERALS, STEPS, USERS
-from rewind_tools.telling.commands import FIRM, at, command_words, counted
+from rewind_tools.telling.commands import at, command_words, counted, plain
 from rewind_tools.telling.reasons import rest_words
 
 # How many states are looked at first for the fewest steps, and at most; how many steps before its end show
@@ -190,10 +190,6 @@ def fewest(ask, graph, asked):
     words = f"by {counted(len(steps), 'step')}, and no fewer:" if steps else FINISHED
     told = [{**shown(it, command_words(it)), "what": KINDS[it["do"]]} for it in steps]
     return {"steps": told, "words": words, "ends": True}
-
-
-def plain(text):
-    return text.replace(FIRM, " ")
 
 
 def nowhere(reply, limit):

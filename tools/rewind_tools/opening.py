@@ -20,7 +20,7 @@ from rewind_tools.journal import PIECE
 from rewind_tools.runs import json_of, lines_of
 from rewind_tools.script import QUERIES
 from rewind_tools.telling import faults, graph_faults
-from rewind_tools.telling.commands import FIRM, command_words, unread
+from rewind_tools.telling.commands import command_words, plain, unread
 
 
 class Line(NamedTuple):
@@ -122,4 +122,4 @@ def refusal(entry, teller):
         asked = unread(line.text)
     else:
         said, asked = teller.refused(line.value, reply, None), command_words(line.value)
-    return f"line {line.number}, {asked}: {'; '.join(said)}".replace(FIRM, " ")
+    return plain(f"line {line.number}, {asked}: {'; '.join(said)}")

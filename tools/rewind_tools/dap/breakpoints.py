@@ -8,8 +8,7 @@ holds when the run starts waits there until it ceases to hold."""
 import itertools
 from typing import NamedTuple
 
-from rewind_tools.dap.console import plain
-from rewind_tools.telling.commands import at, condition
+from rewind_tools.telling.commands import at, condition, plain
 from rewind_tools.typed import NotTyped, line_of, words_of_line
 
 # How many positions are asked about at once. The program walks to the first of them, so later pieces are

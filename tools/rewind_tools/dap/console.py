@@ -6,7 +6,7 @@ import json
 from rewind_tools import completing
 from rewind_tools.prompt import Prompt
 from rewind_tools.script import FORMS, QUERIES, STEPS
-from rewind_tools.telling.commands import FIRM, counted
+from rewind_tools.telling.commands import counted, plain
 from rewind_tools.telling.reasons import why_words
 from rewind_tools.typed import NotTyped, words_of_line
 
@@ -16,10 +16,6 @@ QUESTIONS = ("can", "changed", "where", "graph", "breaks", "help")
 
 class WouldDiscard(Exception):
     """A new step would discard kept steps: its text says how many."""
-
-
-def plain(text):
-    return text.replace(FIRM, " ")
 
 
 def is_question(text):

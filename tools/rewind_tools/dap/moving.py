@@ -7,8 +7,8 @@ import time
 from typing import NamedTuple
 
 from rewind_tools.dap.breakpoints import PIECE, Breakpoints
-from rewind_tools.dap.console import plain
 from rewind_tools.dap.requests import Refused
+from rewind_tools.telling.commands import plain
 
 # How many steps of a run are executed at once, and for how many seconds lines of the script are.
 RUN_PIECE, SECONDS = 1000, 0.05

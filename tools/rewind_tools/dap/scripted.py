@@ -2,8 +2,7 @@
 that has a breakpoint. After a stop the other lines wait, at the position that the script has reached; they
 are left out if something else changes the kept steps."""
 from rewind_tools import opening
-from rewind_tools.dap.console import plain
-from rewind_tools.telling.commands import counted
+from rewind_tools.telling.commands import counted, plain
 
 
 class Scripted:

@@ -3,8 +3,7 @@ end. So line N + 1 is the step after position N. Words are asked for once, when 
 file can be kept the same as the list, for editors that show only files."""
 import os
 
-from rewind_tools.dap.console import plain
-from rewind_tools.telling.commands import command_words
+from rewind_tools.telling.commands import command_words, plain
 
 END = "-- the end of the kept steps"
 # How many steps are asked for one by one; more are asked for by all kept steps at once.

@@ -5,9 +5,8 @@ import json
 from functools import partial
 from typing import Callable, NamedTuple
 
-from rewind_tools.dap.console import plain
 from rewind_tools.showing.states import changes, kinds_of, queues_of
-from rewind_tools.telling.commands import at, command_words, counted, processor_of
+from rewind_tools.telling.commands import at, command_words, counted, plain, processor_of
 from rewind_tools.telling.reasons import held_words, unheard_word
 
 # How many variables are shown at once, and how many entries the value of one names.

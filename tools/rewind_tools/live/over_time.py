@@ -14,10 +14,10 @@ import re
 from typing import NamedTuple
 
 from rewind_tools.finishing import condition
-from rewind_tools.live.sight import item, key_of, plain
+from rewind_tools.live.sight import item, key_of
 from rewind_tools.showing.states import changes
-from rewind_tools.telling.commands import FIRM
 from rewind_tools.telling.commands import condition as condition_words
+from rewind_tools.telling.commands import plain
 
 # How many steps one job reads, over how many positions it looks for turns: of conditions on views, and of
 # others, which take longer; and at how many positions it asks for effects or for frontiers.
@@ -197,7 +197,7 @@ class OverTime:
     def lane(self, when, first, last):
         """What is known of a condition: up to a position, and of the steps in sight, if that is beyond."""
         it, near = self.turned.about(when), self.near.get(json.dumps([when, first, last]), {})
-        words = condition_words(when).replace(FIRM, " ")
+        words = plain(condition_words(when))
         told = {key: it.get(key) for key in ("at_lo", "turns", "to", "error")}
         is_beyond = it["to"] < last and "turns" in near
         return {"when": words, **told, "near": {**near, "lo": first - 1, "to": last} if is_beyond else None}

@@ -9,13 +9,12 @@ from rewind_tools.live.sight import (
     cut,
     messages,
     page_of,
-    plain,
     item,
     state_in_sight,
     window,
 )
 from rewind_tools.second import FEW
-from rewind_tools.telling.commands import at, command_words, processor_of, time_in
+from rewind_tools.telling.commands import at, command_words, plain, processor_of, time_in
 from rewind_tools.telling.effects import effect_words
 from rewind_tools.telling.reasons import count_words, news_words, rest_words
 

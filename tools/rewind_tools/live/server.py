@@ -23,7 +23,7 @@ from rewind_tools.session import Ended
 from rewind_tools.showing.recorded import page_of
 from rewind_tools.telling import faults, names
 from rewind_tools.telling.answers import Teller
-from rewind_tools.telling.commands import FIRM, counted, processor_of
+from rewind_tools.telling.commands import counted, plain, processor_of
 from rewind_tools.tool import Progress
 
 POLICY = (
@@ -153,7 +153,7 @@ class Live:
             said = faults.faulty(reply, faults.line_faults(json.dumps(value).encode(), reply, self.teller))
         else:
             said = self.teller.told(value, reply, None)
-        return [it.replace(FIRM, " ") for it in said]
+        return [*map(plain, said)]
 
     def bring_back(self, asked):
         """Executes the run before the last discard again."""
@@ -190,7 +190,7 @@ class Live:
         """The picture at the cursor, with what is in sight of it."""
         picture = self.pictures.of(self.at, self.kept, self.revision, sight)
         picture.update({"dropped": len(self.journal.dropped), "reach": self.reach()})
-        rounds = self.rounds.at(self.at).replace(FIRM, " ")
+        rounds = plain(self.rounds.at(self.at))
         picture.update({"rounds": rounds, "changes": self.journal.changes})
         return {"revision": self.revision, "picture": picture}
 

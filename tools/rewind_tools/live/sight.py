@@ -1,7 +1,7 @@
 """What is in sight of a session on its page. Each part is cut to a length that grows neither with the kept
 steps nor with what is outstanding."""
 from rewind_tools.showing.states import changes, frontiers_of, kinds_of, place_counts, point_row, queues_of
-from rewind_tools.telling.commands import FIRM, at, command_words, processor_of, time_in
+from rewind_tools.telling.commands import at, command_words, plain, processor_of, time_in
 from rewind_tools.telling.table import Points
 
 # How much is in sight: positions around the cursor, candidates, points of the table, things of one kind that
@@ -9,10 +9,6 @@ from rewind_tools.telling.table import Points
 STEPS, CANDIDATES, POINTS, HELD, TIMES, CHANGES, ENTRIES = 60, 60, 60, 40, 20, 12, 8
 # Up to how many steps in sight are listed, each by itself, and how many values a label has.
 MOST_STEPS, LABELLED = 400, 3
-
-
-def plain(text):
-    return text.replace(FIRM, " ")
 
 
 def cut(entries, most, words):

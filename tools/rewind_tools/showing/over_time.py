@@ -5,8 +5,8 @@ which points are finished.
 A step at a cursor before the last kept step discards the steps after it, and is a cut: an entry counts until
 a cut at an earlier position. page/recorded.js reads the entries: [cuts before it, position, value] each."""
 from rewind_tools.live.over_time import carried
-from rewind_tools.live.sight import item, plain
-from rewind_tools.telling.commands import at
+from rewind_tools.live.sight import item
+from rewind_tools.telling.commands import at, plain
 
 
 class Log:

@@ -12,6 +12,11 @@ FIRM = "\N{NO-BREAK SPACE}"
 NEXT = {"next": "goes on to the next epoch", "close": "gives up its token", "stay": "stays at its epoch"}
 
 
+def plain(text):
+    """A text with plain spaces alone."""
+    return text.replace(FIRM, " ")
+
+
 def next_words(value):
     """Where the token goes after a feed."""
     return f"goes on to epoch {value['to']}" if isinstance(value, dict) else NEXT[value]

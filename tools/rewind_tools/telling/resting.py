@@ -15,8 +15,8 @@ from rewind_tools.script import COMMANDS, LAST
 from rewind_tools.session import Ended, Session
 from rewind_tools.telling.reasons import rest_words
 
-# Of how many questions it is said how they can finish, and how many lines of that are shown.
-MOST_WAYS, MOST_LINES = 5, 8
+# How many questions are asked at rest; of how many it is said how they can finish, and in how many lines.
+MOST_ASKED, MOST_WAYS, MOST_LINES = 100, 5, 8
 
 
 def question_of(entry, holds):
@@ -57,13 +57,14 @@ class Resting:
 
     def ask(self):
         """Asks the copy all questions."""
-        lines, wanted = [], []
+        lines, wanted, count = [], [], 0
         for at, it in enumerate(self.told.entries):
             executed = [it.line.text] if is_executed(it) else []
-            asked = [json.dumps(one).encode() for one in questions_of(it, self.graph.holds)]
-            lines += executed + asked
+            asked = questions_of(it, self.graph.holds) if count < MOST_ASKED else []
+            lines += executed + [json.dumps(one).encode() for one in asked]
             wanted.append((at, len(executed), len(asked)))
-        if not any(asked for _, _, asked in wanted):
+            count += bool(asked)
+        if not count:
             return
         _, output, _ = runs.run_bytes(b"\n".join([*self.opening(), *lines, b""]), self.told.words)
         replies, answers = runs.replies_of(output)[2:], {}
