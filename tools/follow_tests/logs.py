@@ -79,6 +79,18 @@ REGION = [
     channel([0, 0], [1, 0], scope=[2]),
     channel([1, 0], [0, 0], scope=[2]),
 ]
+# A loop in a loop: a --> [enter --> [enter --> m --> leave] --> leave] --> z.
+NESTED = [
+    operates(1, "a", 0, 1),
+    operates(2, "Outer", 1, 1),
+    operates(1, "Inner", 1, 1, scope=[2]),
+    operates(1, "m", 1, 1, scope=[2, 1]),
+    operates(3, "z", 1, 0),
+    channel([1, 0], [2, 0]),
+    channel([2, 0], [3, 0]),
+    *(channel([0, 0], [1, 0], scope=it) for it in ([2], [2, 1])),
+    *(channel([1, 0], [0, 0], scope=it) for it in ([2], [2, 1])),
+]
 
 
 def inside(worker, number, messages=(), internal=()):
@@ -116,6 +128,16 @@ def other_way(logs):
     return found
 
 
+# A message enters both loops, and leaves both.
+BOTH = [
+    sent(0, 1, [[0, 0, [0, 0, 0], 1]], [[0, 0, [0, 0, 0], -1], [1, 0, [0, 0, 0], -1]], scope=[2, 1]),
+    inside(0, 1, [[1, 0, [0, 0], 1]], [[0, 0, [0, 0], -1]]),
+    INTO,
+    ENDED,
+]
+M_KEEPS = [[0, 0, [0, 0, 0], -1], [1, 0, [0, 0, 0], -1], [1, 0, [0, 0, 4], 1]]
+KEEPS = sent(0, 1, [], M_KEEPS, scope=[2, 1])
+
 # One worker that sends a message at epoch 0 through m to z, and ends.
 DROPS = [[M, 0, [0], -1]]
 ENDS = [[A, 0, [0], -1], *DROPS]
@@ -129,6 +151,7 @@ FOLLOWED = {
     "a message round a loop": logs_of(1, IN_LOOP, LOOP),
     "two workers and a loop": logs_of(2, OTHER, LOOP),
     "scopes whose batches come in another order": other_way(logs_of(2, OTHER, LOOP)),
+    "a loop in a loop": logs_of(1, BOTH, NESTED),
     "a region": logs_of(
         1,
         [
@@ -226,6 +249,10 @@ FOLLOWED = {
 }
 # The logs, and what is said.
 HANGS = {
+    "a capability in a loop in a loop": (
+        logs_of(1, [KEEPS, *BOTH[1:3]], NESTED),
+        ["worker 0 holds a capability of m 2.1.1 out 0 (0,0,4)", "in timely by components: there less may"],
+    ),
     "a capability in a loop": (
         logs_of(1, [*IN_LOOP[:3], inside(0, 3, [[1, 1, [0, 1], -1]], [[1, 1, [0, 1], 1]])], LOOP),
         ["z 3 in 0 (0) does not finish", "worker 0 holds a capability of body 2.1 out 1 (0,1)",

@@ -56,7 +56,7 @@ class Follower:
         """Executes what can be executed."""
         count = sum(map(len, self.merging.lines))
         while not self.merging.is_done():
-            self.program.progress("executed", sum(self.merging.at), count)
+            self.program.progress("lines executed", sum(self.merging.at), count)
             batch = self.merging.plan(MOST_STEPS - self.position)
             if batch.items:
                 self.execute(batch)

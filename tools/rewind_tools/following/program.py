@@ -1,7 +1,7 @@
 """The program that executes the lines of the traces, in the last version of the script that it has.
 
     program = Program(graph, 3, on_note)        GraphRefused, if it refuses the graph
-    program.progress("read", 1000, 5000)        says now and then how far the lines are read or executed
+    program.progress("lines read", 1000, 5000)  says now and then how far the work is
     program.ask([b"..", b".."])                 the reply to each line, as bytes
     program.asked({"do": "state"})              the reply to one line, as a value
     program.again([b"..", ..])                  a new process, which executes these lines first
@@ -22,8 +22,22 @@ from rewind_tools.tool import Fault
 VERSIONS = (LAST, 6, 5)
 # How many lines are executed again at once.
 PIECE = 2_000
-# How many seconds pass before it is said how far the lines are; then it is said as long after that again.
-FIRST = 2
+# How many seconds pass before it is said how far the work is; then that many times as long pass.
+FIRST, TIMES = 2, 2
+
+
+class Reporter:
+    """Says how far the work is, if that takes some seconds, and then ever more seldom."""
+
+    def __init__(self, tool, on_note):
+        self.tool, self.on_note = tool, on_note
+        self.begun, self.wait = time.monotonic(), FIRST
+
+    def __call__(self, what, done, count):
+        passed = time.monotonic() - self.begun
+        if passed >= self.wait:
+            self.wait = TIMES * passed
+            self.on_note(f"{self.tool}: {done:,} of {count:,} {what} so far")
 
 
 class GraphRefused(Exception):
@@ -38,16 +52,12 @@ class Program:
     def __init__(self, graph, workers, on_note):
         self.graph, self.names = graph, Names(graph)
         self.words = ["--processors", str(workers)]
-        self.start(on_note)
+        self.on_note, self.noted, self.progress = on_note, set(), Reporter("follow", on_note)
         self.session = self.opened()
         self.version, reply = self.session.version, self.session.started
         if "error" in reply:
             self.close()
             raise GraphRefused(*named(reply, graph_faults(self.names.graph, reply, self.version)))
-
-    def start(self, on_note):
-        self.on_note, self.noted = on_note, set()
-        self.begun, self.wait = time.monotonic(), FIRST
 
     def opened(self):
         for version in VERSIONS[:-1]:
@@ -62,12 +72,6 @@ class Program:
         if text not in self.noted:
             self.noted.add(text)
             self.on_note(text)
-
-    def progress(self, what, done, count):
-        """Says how far the lines are, if that takes some seconds."""
-        if time.monotonic() - self.begun >= self.wait:
-            self.wait = 2 * (time.monotonic() - self.begun)
-            self.on_note(f"follow: {done:,} of {count:,} lines {what} so far")
 
     def ask(self, texts):
         if not self.names.short:

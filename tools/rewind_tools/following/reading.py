@@ -104,7 +104,7 @@ class Reader:
     def read(self):
         lines = []
         for at, it in enumerate(self.trace.lines):
-            self.program.progress("read", at, len(self.trace.lines))
+            self.program.progress("lines read", at, len(self.trace.lines))
             number, value, own, text = self.prepared(*it)
             if isinstance(own, str):
                 raise NoLine

@@ -4,14 +4,12 @@
     run.follow()
     run.ending                    an Ending of following/endings.py, of the steps
     run.close()"""
-import time
-
 from rewind_tools.following.checking import Follower
 from rewind_tools.following.endings import ending_of
 from rewind_tools.following.epochs import Epochs
 from rewind_tools.following.merging import Merging
 from rewind_tools.following.places import Places
-from rewind_tools.following.program import GraphRefused, Program
+from rewind_tools.following.program import GraphRefused, Program, Reporter
 from rewind_tools.timely import logs
 from rewind_tools.timely.batches import Progress
 from rewind_tools.timely.dataflow import Dataflow
@@ -19,26 +17,9 @@ from rewind_tools.timely.planning import NoOrder, Planner, Unjoined
 from rewind_tools.timely.words import Words, unjoined_words
 
 
-# How many seconds pass before it is said how far the work is; then it is said after that many times as long.
-FIRST, TIMES = 2, 2
-
-
-class Reporter:
-    """Says how far the work is, if that takes some seconds."""
-
-    def __init__(self, on_note):
-        self.on_note, self.begun, self.wait = on_note, time.monotonic(), FIRST
-
-    def __call__(self, what, done, count):
-        passed = time.monotonic() - self.begun
-        if passed >= self.wait:
-            self.wait = TIMES * passed
-            self.on_note(f"timely: {done:,} of {count:,} {what} so far")
-
-
 class Run:
     def __init__(self, paths, on_note):
-        self.report = Reporter(on_note)
+        self.report = Reporter("timely", on_note)
         self.logs = logs.read(paths, self.report)
         self.dataflow = Dataflow(self.logs)
         self.progress = Progress(self.logs, self.dataflow)
