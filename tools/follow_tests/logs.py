@@ -399,6 +399,11 @@ WRONG = {
 }  # fmt: skip
 # The logs, how many of them are given, and what is said.
 INCOMPLETE = {
+    "batches of a loop and around it": (
+        cut(logs_of(2, OTHER, LOOP), 1, len(LOOP) + 7),
+        2,
+        ["w1 is cut off; 2 batches of several scopes of worker 1, which it lacks, followed as w0 has them"],
+    ),
     "a batch that others received": (
         cut(logs_of(2, [FED, IDLE, PASSED, READ]), 0, 10),
         2,

@@ -206,6 +206,8 @@ class Words:
         return "; ".join(parts)
 
     def numbers(self, batches):
+        if len({it.scope for it in batches}) > 1:
+            return f"{len(batches)} batches of several scopes"
         first, last = batches[0].seq_no, batches[-1].seq_no
         return f"batch {first}" if first == last else f"the batches {first} to {last}"
 
