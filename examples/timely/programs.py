@@ -1,4 +1,4 @@
-"""The operators, and three programs of them."""
+"""The operators, and four programs of them."""
 import math
 
 from dataflow import BORDER, Dataflow, Location
