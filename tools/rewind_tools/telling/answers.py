@@ -47,12 +47,12 @@ class Teller:
         else:
             why = (
                 f"breakpoint {stop['break']} holds:"
-                f" {self.breaks.get(stop['break'], 'set by a line that is not told')}"
+                f" {self.breaks.get(stop['break'], 'set by a line not shown here')}"
             )
         return [f"ran {counted(reply['ran'], 'step')}, then stopped: {why}", cursor(reply)]
 
     def cleared(self, value, reply):
-        return [f"done: it was {self.breaks.pop(value['id'], 'set by a line that is not told')}"]
+        return [f"done: it was {self.breaks.pop(value['id'], 'set by a line not shown here')}"]
 
     def hindrance(self, value, reply, before):
         """The number and the name of a refusal, and what stands in the way; an empty text if that is all."""
@@ -66,7 +66,7 @@ class Teller:
 
     def kept_positions(self):
         if self.kept is None:
-            return "how many are kept was not told"
+            return "how many are kept is not known"
         return (
             f"kept are the positions 0 to {self.kept}"
             if self.kept
