@@ -198,10 +198,10 @@ TOLD = {
         (9, "15 NothingToSend"), (10, "refused: az (0)"),
         (11, "refused: nothing is on its way from processor 1 to 0, nor from others"),
         (12, "21 AtEnd"),
-        (13, "refused: position 7 is past the last kept step; kept are the positions "
+        (13, "refused: position 7 is past the last kept step; the kept positions are "
             "0 to 1"),
         (16, "20 AtStart"), (17, "50 BadRange"), (18, "51 NoWorkers"),
-        (19, "refused: position 5 is past the last kept step; kept are the positions "
+        (19, "refused: position 5 is past the last kept step; the kept positions are "
             "0 to 1"),
         (20, "there is no processor 9"),
     ]),
@@ -373,7 +373,7 @@ TOLD = {
     ]),
     "texts": ([], [LINE, '{"do":back}', '{"do":"back"', " " + '"' + "x" * 65536 + '"'], 0, [
         (2, "(30 BadLine)"), (2, "faulty: it breaks as JSON at column 7"), (3, "at column 13"),
-        (4, "(33 LineTooLong)"), (4, "faulty: the line has 65539 bytes; at most 65536 may be"),
+        (4, "(33 LineTooLong)"), (4, "faulty: the line has 65539 bytes; at most 65536 are allowed"),
     ]),
     # the graph's place
     "a command first": ([], [do("back"), LINE], 2, [
@@ -463,7 +463,7 @@ TOLD = {
         (2, '"why" came with version 3, and the script is of version 1; its first line must be '
             '{"version":3}'),
         (3, '"export" came with version 2'), (4, '"whi" is not a command or query; the words are'),
-        (5, "before the graph alone"),
+        (5, "only before the graph"),
     ]),
     "another version": ([], ['{"version":9}', LINE], 2,
         [(1, "(40 Shape)"), (1, 'faulty: a version line is {"version":N} alone, N from 2 to 8')]),
@@ -476,7 +476,7 @@ TOLD = {
     "a deep time": ([], [V2, DEEP, do("count", at="z", time=[0])], 0,
         [(3, 'at "z", at depth 5, a time has 6 numbers')]),
     "a deep graph": ([], [DEEP], 2,
-        [(1, '"z" is at depth 5; at most 4 may be; in later versions at most 6')]),
+        [(1, '"z" is at depth 5; the limit is 4; in later versions at most 6')]),
     "nine processors": (["--processors", "9"], [LINE], 2,
         [(1, "(48 BadCount)"), (1, "faulty: a script of version 1 has at most 8 processors")]),
     "clients of a version": (["--clients", "2"], [V2, *CLIENTS], 0, [
@@ -487,7 +487,7 @@ TOLD = {
         [(5, "(36 OneClientOnly)"), (5, 'faulty: "export"')]),
     "clients' refused graph": (["--clients", "2"], [V2, DEEPER, '{"client":1,"do":"back"}'], 2, [
         (2, "(45 TooLarge)"), (2, 'faulty: the ingress "i6" is at depth 6, the greatest'),
-        (2, '"z" is at depth 7; at most 6 may be'),
+        (2, '"z" is at depth 7; the limit is 6'),
     ]),
     # version 4
     "what may be executed": ([], [
@@ -635,7 +635,7 @@ TOLD = {
         (4, "refused: epoch 1000 is not above the token's, which is 1000"),
         (5, "processor 0's token of a goes from epoch 0 to 1000"),
         (6, '"next":{"to":-1} has "to":-1, which is below 0; expected "next", "close", "stay" or {"to":1}'),
-        (7, '"next":{"too":5} is an object, and is to have the key "to" alone'),
+        (7, '"next":{"too":5} is an object, and must have the key "to" alone'),
         (8, 'has "to":"5", which is a text'), (9, '"next":5 is a number; expected "next", "close"'),
     ]),
     "runs of some processors": (["--processors", "3"], [
@@ -749,9 +749,9 @@ GRAPH_FAULTS = {
             'which is at depth 1',
     ),
     "no loop to leave": (graph([vertex("e", "egress")], []), 44, 'the egress "e" is at depth 0'),
-    "too deep": (graph([vertex("s", "sum", 5)], []), 45, '"s" is at depth 5; at most 4 may be'),
+    "too deep": (graph([vertex("s", "sum", 5)], []), 45, '"s" is at depth 5; the limit is 4'),
     "too many": (graph([vertex(f"s{n}", "sum") for n in range(65)], []), 45,
-        "there are 65 vertices and edges; at most 64"),
+        "there are 65 vertices and edges; the limit is 64"),
     "a loop": (graph([A, M], [edge("am", "a", "m"), edge("mm", "m", "m")]), 46,
         'a walk from "m" comes back to "m"'),
 }  # fmt: skip

@@ -95,7 +95,7 @@ OPAQUE_TOLD = {
         (7, "h is a vertex (hold); vertices that send: x"),
         (8, "s is a vertex (sum); vertices that hold capabilities: h and x"),
         (9, "h is a vertex (hold); vertices that keep a capability beside a later one: x"),
-        (10, "refused: there are 1025 values; at most 1024 may be"),
+        (10, "refused: there are 1025 values; at most 1024 are allowed"),
     ]),
     "words of version 6": ([], [
         V6, TRACED, do("sned", p=0), do("send", p=0, vertex="x", time=[0], values=[1]), send([1], prot=1),
@@ -134,7 +134,7 @@ OPAQUE_TOLD = {
         V5, json.dumps(graph([vertex(f"z{n}", "sink") for n in range(65)], [])),
     ], 2, [
         (2, "(45 TooLarge)"),
-        (2, "faulty: there are 65 vertices and edges; at most 64 may be; in version 8 at most 256"),
+        (2, "faulty: there are 65 vertices and edges; the limit is 64; in version 8 at most 256"),
     ]),
     "a graph of 256 locations": ([], [
         V6, json.dumps(graph([A, *(vertex(f"z{n}", "sink") for n in range(255))], [])),
@@ -165,5 +165,5 @@ OPAQUE_GRAPH_FAULTS = {
     "a port of none": (graph([vertex("x", "opaque", ports=0), Z], [edge("xz", "x", "z")]), 43,
         'on port 0, which has no port'),
     "too many": (graph([A, *(vertex(f"z{n}", "sink") for n in range(256))], []), 45,
-        "there are 257 vertices and edges; at most 256 may be"),
+        "there are 257 vertices and edges; the limit is 256"),
 }  # fmt: skip

@@ -43,7 +43,7 @@ class Job(NamedTuple):
 
 
 def truth(when):
-    """The condition that what a processor is to have passed is finished."""
+    """The condition that what a processor must have passed is finished."""
     if "all" in when:
         return {"all": [truth(it) for it in when["all"]]}
     return {"finished": {key: it for key, it in when["passed"].items() if key != "q"}}

@@ -68,7 +68,7 @@ class Teller:
         if self.kept is None:
             return "how many are kept is not known"
         return (
-            f"kept are the positions 0 to {self.kept}"
+            f"the kept positions are 0 to {self.kept}"
             if self.kept
             else "no step is kept, so position 0 is the only one"
         )
@@ -250,7 +250,7 @@ REFUSALS = {
         f"processor {value['p']} has given up its token of {value['vertex']}"
     ),
     "TooManyValues": lambda teller, value, reply, before: (
-        f"there are {len(value['values'])} values; at most 1024 may be"
+        f"there are {len(value['values'])} values; at most 1024 are allowed"
     ),
     "EpochFull": sentence('the token is at the last epoch, 4294967295; "close" and "stay" are left'),
     "NoRecord": no_record,
@@ -278,7 +278,7 @@ REFUSALS = {
     "AtEnd": sentence("no step is kept after the cursor"),
     "NoSuchPoint": Teller.no_such_point,
     "TimelineFull": timeline_full,
-    "TooManyBreaks": sentence("32 breakpoints are set; at most 32 may be"),
+    "TooManyBreaks": sentence("32 breakpoints are set; at most 32 are allowed"),
     "NoBreak": Teller.no_break,
     "LogFull": sentence("1000000 commands are logged, and no more are executed"),
     "BadRange": lambda teller, value, reply, before: (
@@ -290,7 +290,7 @@ REFUSALS = {
     ),
     "NoWorkers": sentence('"workers" is 0; at least 1 thread is needed'),
     "Missing": lambda teller, value, reply, before: (
-        f"no memory was left for piece {reply['piece']} of the positions"
+        f"out of memory at piece {reply['piece']} of the positions"
     ),
 }
 

@@ -28,7 +28,7 @@ def told_line(entry, before, teller):
     asked, or None."""
     reply = entry.reply
     if entry.line is None:
-        return "makes no further command", teller.refused({}, reply, None)
+        return "issues no further commands", teller.refused({}, reply, None)
     if "line" in reply:
         return unread(entry.line.text), faulty(reply, line_faults(entry.line.text, reply, teller))
     if "locations" in reply:
@@ -74,7 +74,7 @@ def line_faults(text, reply, teller):
     """What is wrong with a line that got this reply, each fault in words."""
     name = reply["error"]
     if name == "LineTooLong":
-        return [f"the line has {len(text)} bytes; at most {LONGEST} may be"]
+        return [f"the line has {len(text)} bytes; at most {LONGEST} are allowed"]
     if name == "BadLine":
         return first_line_faults(text, teller) + text_faults(text, teller)
     return faults_in(text, lambda value: FAULTS[name](value, teller)) if name in FAULTS else []

@@ -131,7 +131,7 @@ def missing_keys(value, form):
 
 
 def keys_faults(value, form, where=""):
-    """What is wrong with the keys of an object that is to have those of a form, each fault in words."""
+    """What is wrong with the keys of an object that must have those of a form, each fault in words."""
     meant = meant_keys(value, form)
     faults = [
         f"the key {shown(key)}{where} {'should be ' + shown(it) if it else 'is too many'}"
@@ -206,7 +206,7 @@ def wrong_atom(value, version, where):
     near = nearest(only, keys) if only is not None else None
     hint = f"; the nearest is {shown(near)}" if near else ""
     return (
-        f"is to have exactly one key, {listed(map(shown, keys), 'or')}, and has"
+        f"must have exactly one key, {listed(map(shown, keys), 'or')}, and has"
         f" {listed(map(shown, value))}{hint}"
     )
 
@@ -274,7 +274,7 @@ def word_faults(value, has_clients, version):
         if near:
             return [f'the key {shown(near)} should be "do"']
         if value.keys() == {"version"}:
-            return ["a version line stands before the graph alone"]
+            return ["a version line comes only before the graph"]
         form = likeliest(value, known)
         hint = f"; the nearest form is {line_shown(form, value, has_clients, version)}" if form else ""
         return [f'the key "do" is missing, which says what to do{hint}']

@@ -198,11 +198,11 @@ def too_large(graph, version):
     """What passes the limits of a version."""
     count, most = len(graph["vertices"]) + len(graph["edges"]), most_locations(version)
     later = f"; in version {LAST} at most {most_locations(LAST)}" if most < most_locations(LAST) else ""
-    faults = [f"there are {count} vertices and edges; at most {most} may be{later}"] if count > most else []
+    faults = [f"there are {count} vertices and edges; the limit is {most}{later}"] if count > most else []
     most, later = deepest(version), "; in later versions at most 6" if version == 1 else ""
     for it in graph["vertices"]:
         if it["depth"] > most:
-            faults.append(f"{shown(it['name'])} is at depth {it['depth']}; at most {most} may be{later}")
+            faults.append(f"{shown(it['name'])} is at depth {it['depth']}; the limit is {most}{later}")
         elif it["depth"] == most and it["op"] == "ingress":
             faults.append(
                 f"the ingress {shown(it['name'])} is at depth {most}, the greatest, and enters a loop{later}"
@@ -227,7 +227,7 @@ def graph_faults(value, reply, version=1):
         ]
     if "location" in reply:
         place = shown(reply["location"])
-        walk = f"a walk from {place} comes back to {place} and does not move every time strictly on"
+        walk = f"a walk from {place} comes back to {place} and does not strictly advance every timestamp"
         return [f"{walk}: no feedback is on it, or an egress on it drops again what was added"]
     of_code = FAULTS.get(reply["code"])
     return of_code(value) if of_code else []

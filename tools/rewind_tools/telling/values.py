@@ -147,7 +147,7 @@ def one_of_or_to(*words):
         if not isinstance(value, dict):
             return one_of(*words)[1](value)
         if not is_only(value, "to"):
-            return 'is an object, and is to have the key "to" alone'
+            return 'is an object, and must have the key "to" alone'
         wrong = number(SMALL)[1](value["to"])
         return f'has "to":{shown(value["to"], 24)}, which {wrong}' if wrong else None
 
