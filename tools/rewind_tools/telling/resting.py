@@ -44,8 +44,8 @@ def questions_of(entry, holds):
 
 
 def is_executed(entry):
-    value = entry.line.value if entry.line else None
-    return isinstance(value, dict) and value.get("do") in COMMANDS and "error" not in entry.reply
+    value = entry.line.value if entry.line and "error" not in entry.reply else None
+    return isinstance(value, dict) and value.get("do") in COMMANDS
 
 
 class Resting:
