@@ -69,7 +69,9 @@ REST_TOLD = {
             "the last 200 steps its counter grows from 0 to 99"),
         (3, "me (0,2) | 1* | . | 1* and 97 more rounds of loop f, to me (0,99) and 1 point as before"),
     ], [(4, "goes round")]),
-    "a word that is no text": ([], [SUM, '{"do":[]}', feed(0, []), why(), do("passed", q=0, at="z", time=[0])], 0, [
+    "a word that is no text": ([], [
+        SUM, '{"do":[]}', feed(0, []), why(), do("passed", q=0, at="z", time=[0]),
+    ], 0, [
         (2, '"do":[] is a list'), (5, "it finishes, by any order: 2 steps are left"),
     ]),
     "several clients": (["--clients", "2"], [
