@@ -104,22 +104,19 @@ class Progress:
             found.update({point: n for point in self.dataflow.delivered(port, time)})
         return found
 
-    def port_of(self, batch, side, node, number):
-        is_one = is_whole(node) and is_whole(number)
-        return self.dataflow.ports.get((side, batch.scope, node, number)) if is_one else None
-
     def summed(self, batch, kind):
         """The entries of one kind, added by port and time; those that add up to 0 are left out."""
         scope, found = self.dataflow.scopes[batch.scope], {}
         side, numbers = "in" if kind == "messages" else "out", scope.depth + 1
+        ports = self.dataflow.known.get((side, batch.scope), {})
         for it in getattr(batch, kind):
             if type(it) is not list or len(it) != 4 or type(it[3]) is not int:
                 raise Unreadable(batch.log.path, batch.line, f"an entry is [node, port, time, n], not {it}")
             node, number, time, n = it
             if type(time) is not list or len(time) != numbers or not is_whole(time[0]):
                 raise Unsupported(batch.log.path, batch.line, time_words(time, numbers))
-            port = self.port_of(batch, side, node, number)
-            if port is None or not (port.is_output or self.dataflow.into[port]):
+            port = ports.get((node, number)) if type(node) is type(number) is int else None
+            if port is None:
                 where = f"{side}put {number} of operator {node}"
                 why = f"an entry of {kind} at {where}, which is not in the logs"
                 raise Unreadable(batch.log.path, batch.line, why)

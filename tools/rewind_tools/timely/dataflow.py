@@ -114,7 +114,11 @@ class Dataflow:
         self.before = {it: [] for it in every if it.is_output}
         self.connect()
         self.add_channels(logs)
-        self.known_ways = {}
+        # by side and scope the ports at which an entry can be, by node and number
+        self.known, self.known_ways = {}, {}
+        for (side, scope, *numbers), port in self.ports.items():
+            if port.is_output or self.into[port]:
+                self.known.setdefault((side, scope), {})[tuple(numbers)] = port
 
     @property
     def is_nested(self):
