@@ -11,7 +11,7 @@ from rewind_tools.showing.graphs import graph_svg, laid_out, prefix_of, without_
 FOLDER = os.path.dirname(os.path.abspath(__file__))
 SHARED = ("base.js", "time.js", "drawing.js", "panels.js", "address.js")
 SCRIPTS = {
-    "live": (*SHARED, "held.js", "finishing.js", "live.js", "keys.js"),
+    "live": (*SHARED, "held.js", "finishing.js", "asking.js", "forms.js", "live.js", "keys.js"),
     "recorded": (*SHARED, "recorded.js", "keys.js"),
 }  # fmt: skip
 FILES = {

@@ -178,6 +178,7 @@ async function show(at) {
   document.querySelector("main").classList.toggle("empty", !picture);
   if (picture) {
     picture.steps = stepsInSight();
+    view.first = picture.steps.first;
     picture.why = chosen.place === null ? null : whyAnswer(question());
     over = overAll();
     showPicture();

@@ -15,8 +15,11 @@ function windowOf(cursor, kept, { count, first, of }) {
   return [from, Math.min(kept, from + count - 1)];
 }
 
+// How wide the plots are, which is measured once for each time that they are drawn.
+let plot = 200;
+
 function plotWidth() {
-  return Math.max(200, by("strip").clientWidth - LEFT - RIGHT);
+  return plot;
 }
 
 // Where the step that leads to a position stands among those in sight, and in the overview.
@@ -96,12 +99,7 @@ function showStrip() {
   const svg = drawn("svg", { width: end + RIGHT, height: tall, role: "img", "aria-label": `all ${picture.kept} steps` });
   svg.append(drawn("text", { class: "lane-name", x: 2, y: tall / 2 + 4 }, "all steps"));
   names.forEach((_, lane) => svg.append(...bandParts(lane, 2 + lane * high, high - 1, xOfAll, LEFT, end)));
-  const density = over ? over.density : [], most = Math.max(1, ...density.flat());
-  density.forEach((row, p) => row.forEach((count, at) => {
-    if (!count) return;
-    const wide = plotWidth() / row.length;
-    svg.append(drawn("rect", { class: "density", x: LEFT + at * wide, y: 2 + p * high, width: wide, height: high - 1, opacity: 0.15 + (0.6 * count) / most }));
-  }));
+  svg.append(...densityParts(over ? over.density : [], (p) => 1 + (p + 1) * high, high - 1));
   for (const it of picture.marks) svg.append(drawn("rect", { class: "refused-mark", x: xOfAll(it.at), y: 2 + it.p * high, width: 2, height: high - 1 }));
   const { first, last } = picture.steps, begin = xOfAll(first - 1);
   svg.append(drawn("rect", { class: "brush", x: begin, y: 0.5, width: Math.max(3, xOfAll(last) - begin), height: tall - 1 }));
@@ -240,7 +238,8 @@ function labelsOf(items) {
 function arrow(kind, from, to, title, text) {
   const group = drawn("g", { class: `arrow ${kind}` });
   const ends = { x1: from[0], y1: from[1], x2: to[0], y2: to[1] };
-  group.append(drawn("line", { class: "hit", ...ends }), drawn("line", ends), drawn("title", {}, title));
+  if (kind === "update") group.append(drawn("line", { class: "hit", ...ends }));
+  group.append(drawn("line", ends), drawn("title", {}, title));
   if (text) group.append(drawn("text", { x: from[0] + (to[0] - from[0]) * 0.45 + 5, y: from[1] + (to[1] - from[1]) * 0.45 + (to[1] > from[1] ? -2 : 9) }, text));
   return group;
 }
@@ -312,14 +311,13 @@ function laneName(name, lane) {
   return it;
 }
 
-// Of many steps only how many there are.
-function densityParts() {
-  if (!over || !over.near) return [];
-  const most = Math.max(1, ...over.near.flat()), wide = plotWidth() / over.near[0].length, high = laneHeight() - 6;
-  return over.near.flatMap((row, p) => row.map((count, at) => {
-    const tall = (high * count) / most;
-    return drawn("rect", { class: "density", x: LEFT + at * wide, y: y(p) + high / 2 - tall, width: wide, height: tall });
-  }));
+// Of many steps only how many there are, as columns on the lanes.
+function densityParts(density, bottom, high) {
+  const most = Math.max(1, ...density.flat());
+  return density.map((row, p) => {
+    const wide = plotWidth() / row.length, column = (count, at) => `M${LEFT + at * wide},${bottom(p)}v${(-high * count) / most}h${wide}v${(high * count) / most}z`;
+    return drawn("path", { class: "density", d: row.map((count, at) => (count ? column(count, at) : "")).join("") });
+  });
 }
 
 // Which mark and which colour each kind of step in sight has.
@@ -357,12 +355,12 @@ function showSteps() {
     if (lane < about.processors) svg.append(drawn("line", { class: "lane", x1: LEFT, x2: right, y1: y(lane), y2: y(lane) }));
   });
   const isListed = items.length > 0, marks = picture.marks.filter((it) => it.at >= first - 1 && it.at <= last && it.p < about.processors);
-  svg.append(...truthLine(), ...(isListed ? [...messages.map(updateArrow), ...recordArrows(items), ...items.map(stepMark), ...(stepWidth() > 8 ? labelsOf(items) : [])] : densityParts()));
+  svg.append(...truthLine(), ...(isListed ? [...messages.map(updateArrow), ...recordArrows(items), ...items.map(stepMark), ...(stepWidth() > 8 ? labelsOf(items) : [])] : densityParts((over && over.near) || [], (p) => y(p) + laneHeight() / 2 - 3, laneHeight() - 6)));
   svg.append(...ringsOf(), ...marks.map(refusedMark));
   if (picture.at >= first - 1 && picture.at <= last) svg.append(cursorLine(x(picture.at) + stepWidth() / 2, high));
-  const focused = document.activeElement && document.activeElement.closest("#spacetime");
+  const focused = document.activeElement && document.activeElement.closest("#spacetime .step");
   by("spacetime").replaceChildren(svg);
-  if (focused) focusStep(picture.at);
+  if (focused && !focusStep(focused.dataset.position)) focusStep(picture.at);
   by("known").textContent = chosen.place === null ? "Steps" : `Who knows that ${pointText()} is finished`;
   by("range").textContent = picture.kept ? `steps ${first} to ${last} of ${picture.kept}${over && over.said ? `; ${over.said}` : ""}` : "no step yet";
   by("kinds").replaceChildren(...stepLegend(items));
@@ -386,6 +384,7 @@ function stepKeys(event) {
 }
 
 function showTime() {
+  plot = Math.max(200, by("strip").clientWidth - LEFT - RIGHT);
   by("slider").style.marginLeft = `${LEFT - 8}px`;
   by("slider").style.width = `${plotWidth() + 16}px`;
   showStrip();
