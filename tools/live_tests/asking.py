@@ -88,6 +88,45 @@ class Stuck(unittest.TestCase):
         self.assertEqual(why["error"], "(0,0) is not a time of out, where a time is the epoch alone")
 
 
+class OfAllSteps(unittest.TestCase):
+    """What is asked about all kept steps of the stuck program, of which there are 11."""
+
+    @classmethod
+    def setUpClass(cls):
+        cls.live = of_class(cls, stuck())
+
+    def test_found(self):
+        """Processor 1 takes the record of value 3 by step 4, and that of value 5 by step 8."""
+        told = self.live.asked("find", {"kind": "take", "p": 1})
+        self.assertEqual([(it["position"], it["label"]) for it in told["items"]], [(4, "3"), (8, "5")])
+        told = self.live.asked("find", {"kind": "take", "at": "words-total", "time": [1]})
+        self.assertEqual(told, {"items": [], "count": 0})
+
+    def test_state(self):
+        """The state after the first feed, of two records; the cursor stays."""
+        state = self.live.asked("state", {"at": 1})["state"]
+        there = {it["at"].replace("\u00a0", " "): it["truth"] for it in state["points"]}
+        self.assertEqual(there["words-total (0)"], "2")
+        self.assertEqual(self.live.asked("picture", {})["picture"]["at"], 11)
+
+    def test_typed_condition(self):
+        told = self.live.asked("condition", {"text": "not passed 0 out 0"})
+        self.assertEqual(told, {"when": {"not": {"passed": {"q": 0, "at": "out", "time": [0]}}}})
+        self.assertIn("nope is not a condition", self.live.asked("condition", {"text": "nope"})["error"])
+
+    def test_carried(self):
+        """The first feed sends the record of value 3 to processor 1; the first broadcast, step 5, says that
+        the token of processor 0 went on."""
+        told = whole_overview(self.live, {"window": [1, 11], "bins": 11})
+        self.assertEqual(told["carried"]["1"], {"records": [[1, "words-total (0) 3", 1]]})
+        self.assertIn("words (0) \u22121", told["carried"]["5"]["updates"])
+        self.assertEqual([sum(row) for row in zip(*told["density"])], [1] * 11)
+
+    def test_exported(self):
+        page = self.live.asked("export", {})["page"]
+        self.assertTrue(page.startswith("<!DOCTYPE html>") and "recorded" in page, page[:200])
+
+
 class Finishing(unittest.TestCase):
     """How a point can still finish."""
 
