@@ -216,16 +216,21 @@ class Staying(unittest.TestCase):
 
 class Sources(unittest.TestCase):
     def test_places(self):
-        """The steps of a saved run come with their places, until other steps take theirs."""
+        """The steps of a saved run come with their places, until other steps take theirs; how the run ended
+        is said, and what was refused is marked."""
         graph, lines = chain(1, 2, 1)
         served = Served([json.dumps(graph), *map(json.dumps, lines)])
         places = [{"script": at, "file": "w0", "line": at, "note": "it"} for at in range(2, len(lines) + 2)]
         try:
             with open(f"{served.path}.lines", "w", encoding="utf-8") as it:
-                it.write("".join(json.dumps(place, separators=(",", ":")) + "\n" for place in places))
+                others = [{"verdict": "refused: line 3"}, {"refused": "end", "worker": 0, "text": "line 3"}]
+                values = [json.dumps(value, separators=(",", ":")) for value in (*places, *others)]
+                it.write("\n".join(values) + "\n")
             with served as live:
+                self.assertIn('<b class="bad">refused: line 3</b>', live.get()[2])
                 shown = live.asked("picture", {"sight": {}})["picture"]
                 place = f" [w0, line {len(lines) + 1}; note: it]"
+                self.assertEqual(shown["marks"], [{"at": 2, "p": 0, "words": "line 3"}])
                 self.assertTrue(shown["effect"]["step"].endswith(place), shown["effect"])
                 self.assertTrue(shown["steps"]["items"][-1]["words"].endswith(place))
                 live.command({"do": "back"})

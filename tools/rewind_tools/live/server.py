@@ -73,6 +73,7 @@ class Live:
         self.revision, self.ended, self.progress = 0, None, ""
         self.rounds = finishing.Rounds()
         self.is_cancelled = self.is_closing = False
+        self.verdict = ""
         session.on_end(self.has_ended)
 
     at, kept = property(lambda it: it.journal.at), property(lambda it: it.journal.kept)
@@ -99,9 +100,10 @@ class Live:
         self.lock.acquire(timeout=1)  # a step that was answered is still written
         return self.journal.close()
 
-    def execute(self, lines, marks=()):
+    def execute(self, lines, marks=(), verdict=""):
         """Executes a script's lines before a page is there; returns why some were refused. `marks` has what
-        else was refused (rewind_tools/sources.py)."""
+        else was refused, and `verdict` how a run that was followed ended (rewind_tools/sources.py)."""
+        self.verdict = verdict
         refused, self.journal.report, last = [], Progress(self.say).report, 0
         for entry in opening.executed(self.journal, lines, True):
             if "line" not in entry.reply:
@@ -270,7 +272,7 @@ class Live:
         with self.lock:
             script, places = self.journal.script().encode(), self.journal.places()
             marks = [(it["at"], it["p"], it["words"]) for it in self.pictures.marks if it["at"] <= self.kept]
-        given = {"marks": marks, "places": places, "is_at_end": True}
+        given = {"marks": marks, "places": places, "verdict": self.verdict, "is_at_end": True}
         return {"page": page_of(self.name, script, self.session.words, report=self.go_on, **given)[0]}
 
     def go_on(self, text):
@@ -311,7 +313,8 @@ class Live:
 
     def page(self):
         """The page, with the graph in it."""
-        return live_page(self.session.graph, self.name, self.teller.processors)
+        said = self.verdict, self.pictures.marks
+        return live_page(self.session.graph, self.name, self.teller.processors, *said)
 
 
 def typed_condition(text):

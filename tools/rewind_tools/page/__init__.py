@@ -27,7 +27,7 @@ KEYS = {
 WORDS = {
     "live": {
         "back": "undo the last step", "redo": "execute the next kept step again", "on": "redo",
-        "conditions": "Conditions", "changed": "changed by the last step", "verdict": "",
+        "conditions": "Conditions", "changed": "changed by the last step",
     },
     "recorded": {
         "back": "one position back", "redo": "one position forward", "on": "forward",
@@ -67,11 +67,19 @@ def graph_of(graph, uses_dot=True):
     return {"graph": svg, "loops": loops, "prefix": said}
 
 
-def live_page(graph, name, processors):
+def verdict_of(text, marks):
+    """The section of a verdict, its first line in red if something was refused."""
+    first, *others = escape(text).split("\n")
+    said = "\n".join([f'<b class="{"bad" if marks else "good"}">{first}</b>', *others])
+    return f'<section id="verdict"><h2>How it ended</h2><pre>{said}</pre></section>\n' if text else ""
+
+
+def live_page(graph, name, processors, verdict="", marks=()):
     """The page of a live session."""
     about = {"processors": processors, "places": places_of(graph), "name": name}
     values = {
         "title": escape(name), "about": escape(json.dumps(about)), "command": "", "last": "0",
+        "verdict": verdict_of(verdict, marks),
         **graph_of(graph),
         "style": '<link rel="stylesheet" href="page.css">',
         "scripts": "\n".join(f'<script src="{it}"></script>' for it in SCRIPTS["live"]),

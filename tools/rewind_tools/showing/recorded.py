@@ -8,7 +8,7 @@ from html import escape
 
 from rewind_tools import sources
 from rewind_tools.live.pictures import Pictures
-from rewind_tools.page import SCRIPTS, filled, graph_of, part, places_of
+from rewind_tools.page import SCRIPTS, filled, graph_of, part, places_of, verdict_of
 from rewind_tools.runs import run_script, without_clients
 from rewind_tools.script import COMMANDS, STEPS
 from rewind_tools.session import Ended, Session
@@ -253,13 +253,6 @@ def embedded(value):
     """A value as JSON that may stand inside a script element."""
     text = json.dumps(value, separators=(",", ":"), ensure_ascii=False)
     return text.replace("<", "\\u003c").replace(">", "\\u003e").replace("&", "\\u0026")
-
-
-def verdict_of(text, marks):
-    """The section of a verdict, its first line in red if something was refused."""
-    first, *others = escape(text).split("\n")
-    said = "\n".join([f'<b class="{"bad" if marks else "good"}">{first}</b>', *others])
-    return f'<section id="verdict"><h2>How it ended</h2><pre>{said}</pre></section>\n' if text else ""
 
 
 def last_kept(told):
