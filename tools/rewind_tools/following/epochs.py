@@ -66,7 +66,7 @@ class Tokens:
 class Epochs:
     def __init__(self):
         self.found, self.tokens = {0}, Tokens()
-        self.order, self.ranks = [0], {0: 0}
+        self.order, self.ranks, self.are_ranks = [0], {0: 0}, True
 
     def add(self, worker, value):
         """Takes a line's epochs."""
@@ -80,13 +80,12 @@ class Epochs:
         self.order = sorted(self.found)
         self.ranks = {epoch: rank for rank, epoch in enumerate(self.order)}
         self.found, self.tokens = None, None
-
-    def are_ranks(self):
-        """Whether each epoch is its own rank."""
-        return self.order[-1] == len(self.order) - 1
+        self.are_ranks = self.order[-1] == len(self.order) - 1
 
     def rank(self, value):
         """Puts ranks for the epochs of a line."""
+        if self.are_ranks:
+            return
         for time in times_of(value):
             time[0] = self.ranks[time[0]]
         following = value.get("next") if value.get("do") == "feed" else None

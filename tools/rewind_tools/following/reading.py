@@ -26,6 +26,7 @@ NOBODY = 2**32 - 1
 # How many lines the program is asked at once.
 PIECE = 2_000
 NOTHING = ()
+ENCODER = json.JSONEncoder(separators=(",", ":"))
 # What the program is given in place of a line that it might execute.
 NO_LINE = b"0"
 
@@ -77,7 +78,7 @@ def summed(entries):
 
 
 def compact(value):
-    return json.dumps(value, separators=(",", ":")).encode()
+    return ENCODER.encode(value).encode()
 
 
 def add_epochs(traces, epochs):
