@@ -387,7 +387,7 @@ class Going(unittest.TestCase):
         with Served(around()) as live, Page(live) as page:
             page.click(page.find(".graph .vertex[data-place='5']"))
             page.says("why", "does not know that z (0) is finished")
-            page.run("findFinish({ ...question(), limit: 1000000 })")
+            page.run("findFinish({ ...question(), limit: 1000000 }, 'fewest')")
             page.wait(lambda: page.run("return !by('busy').hidden"), "the busy sign")
             picture(page, "asking")
             begun = time.monotonic()
@@ -397,6 +397,8 @@ class Going(unittest.TestCase):
             self.assertLess(time.monotonic() - begun, 3)
             picture(page, "cancelled")
             page.click_text("#why button", "How can this finish?")
+            page.says("why", "this does not come to rest within 100000 steps")
+            page.click_text("#why button", "look for the fewest steps")
             page.says("why", "by no short list of steps")
             page.press("left")
             page.at(0, "a step back")

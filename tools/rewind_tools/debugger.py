@@ -207,7 +207,8 @@ class Debugger:
     def execute(self, script, is_script=False):
         """Executes the lines of a script without a word of each; says how many, and what was refused."""
         refused, done = [], 0
-        for entry in opening.executed(self.journal, script.lines, is_script):
+        entries = opening.executed(self.journal, script.lines, is_script)
+        for entry in self.rounds.of_script(self.session.ask, self.teller.graph, entries):
             done += 1
             if "error" in entry.reply:
                 refused.append(entry)
@@ -223,3 +224,5 @@ class Debugger:
             f"{counted(done, 'line')} executed, {len(refused)} of them refused"
             f"{left_out if script.queries else ''}"
         )
+        if self.rounds.at(self.at):
+            self.note(plain(self.rounds.at(self.at)))

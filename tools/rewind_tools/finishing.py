@@ -263,5 +263,14 @@ class Rounds:
         if said or reply["ran"] >= LOOKED_BACK or reply["stop"] == "idle":
             self.words = said
 
+    def of_script(self, ask, graph, entries):
+        """Hands the entries of a script on, and notes at their end what moved the cursor last."""
+        last = None
+        for it in entries:
+            last = it if "at" in it.reply else last
+            yield it
+        if last:
+            self.note(ask, graph, last.line.value, last.reply, last.reply["at"])
+
     def at(self, cursor):
         return self.words if cursor >= self.begin else ""

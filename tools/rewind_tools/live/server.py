@@ -105,7 +105,8 @@ class Live:
         else was refused, and `verdict` how a run that was followed ended (rewind_tools/sources.py)."""
         self.verdict = verdict
         refused, self.journal.report, last = [], Progress(self.say).report, 0
-        for entry in opening.executed(self.journal, lines, True):
+        entries = opening.executed(self.journal, lines, True)
+        for entry in self.rounds.of_script(self.session.ask, self.teller.graph, entries):
             if "line" not in entry.reply:
                 self.note(entry.line.value, entry.reply)
             last, why = entry.reply.get("at", last), opening.refusal(entry, self.teller)
