@@ -39,6 +39,7 @@ async function followAddress(hash) {
   try {
     Object.assign(chosen, why || { place: null, time: null, before: false });
     await source.goToAddress(at);
+    if (chosen.place !== null && !chosen.time) await askWhy();
   } finally {
     isFollowing = false;
   }

@@ -208,7 +208,7 @@ const source = {
   goToStep: jump,
   look: () => inTurn(refresh),
   asked() { noteAddress(picture.at); lookAtAll(); },
-  goToAddress(at) { return at === null || at === picture.at ? inTurn(refresh) : jump(at); },
+  goToAddress(at) { return at !== null && at !== picture.at && at <= picture.kept ? jump(at) : inTurn(refresh); },
   async states(positions) {
     const states = [];
     await inTurn(async () => { for (const at of positions) states.push((await asked("state", { at })).state); });
