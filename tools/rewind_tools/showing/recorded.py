@@ -7,7 +7,7 @@ import json
 from html import escape
 
 from rewind_tools import sources
-from rewind_tools.live.pictures import Pictures
+from rewind_tools.live.pictures import LAST_COUNTER, Pictures
 from rewind_tools.page import SCRIPTS, filled, graph_of, part, places_of, verdict_of
 from rewind_tools.runs import run_script, without_clients
 from rewind_tools.script import COMMANDS, STEPS
@@ -60,9 +60,11 @@ class Copy:
         self.places = {}
         self.pictures, self.named = Pictures(self.session, teller, self.with_place), named_points(told)
         self.left, self.log = {"all": MOST, "fewer": MOST_OF_FEWER}, Log(self.pictures, told.graph)
-        self.revision, self.is_there = 0, "locations" in self.session.started
+        self.revision, self.is_there, self.arrived = 0, "locations" in self.session.started, []
         self.at = self.kept = 0
         self.whys_told = (None, None)
+        sinks = [it["name"] for it in told.graph["vertices"] if it["op"] == "sink"]
+        self.first_asked = [*sinks, *(it["name"] for it in told.graph["vertices"][::-1])][:1]
 
     def execute(self, value):
         """Executes a command; its reply."""
@@ -133,7 +135,7 @@ class Copy:
         points, count = Points(state, order), len(state["processors"])
         waiting = [(place, tuple(time)) for it in state["processors"] for place, time in it["requests"]]
         for asked, wanted in (("all", points.all()), ("fewer", waiting)):
-            wanted = sorted({*wanted, *self.named}, key=points.place)
+            wanted = sorted({*wanted, *self.named, *self.arriving(state)}, key=points.place)
             places = {place for place, _ in wanted}
             queries = (len(wanted) + len({*waiting}) + len(places)) * count
             if queries <= self.left[asked]:
@@ -142,6 +144,16 @@ class Copy:
                 before = [(q, *it, True) for q in range(count) for it in dict.fromkeys(waiting)]
                 return asked, self.asked(points + before)
         return "none", {}
+
+    def arriving(self, state):
+        """Where a page asks first, which is a sink if there is one: the earliest time that can still arrive,
+        as far as each processor knows, and that of the start."""
+        asked = [(q, place) for q in range(len(state["processors"])) for place in self.first_asked]
+        replies = self.pictures.frontiers(state, asked)
+        found = [(it[1], tuple(reply["times"][0])) for it, reply in zip(asked, replies) if reply["times"]]
+        found = [it for it in found if max(it[1]) <= LAST_COUNTER]
+        self.arrived = self.arrived or found[:1]
+        return [*self.arrived, *found]
 
     def asked(self, wanted):
         """The answers about points by processor, and about what is strictly before them."""
