@@ -54,6 +54,7 @@ Try it in this folder. Needed: Python 3.10 or later, and glibc {glibc} or later.
 
   ./rewind --processors 2 < examples/who-waits.jsonl
   tools/tell examples/stuck-program.jsonl --processors 2
+  tools/timely examples/timely/hang/log0.jsonl examples/timely/hang/log1.jsonl
   tools/live examples/stuck-program.jsonl --processors 2
   ./rewind --help
 
