@@ -387,6 +387,7 @@ class Going(unittest.TestCase):
         with Served(around()) as live, Page(live) as page:
             page.click(page.find(".graph .vertex[data-place='5']"))
             page.says("why", "does not know that z (0) is finished")
+            page.wait(lambda: page.run("return waiting === 0 && chosen.time !== null"), "the answer")
             page.run("findFinish({ ...question(), limit: 1000000 }, 'fewest')")
             page.wait(lambda: page.run("return !by('busy').hidden"), "the busy sign")
             picture(page, "asking")
