@@ -252,8 +252,10 @@ function watchServer() {
     if (ended) by("gone").textContent = ended.replace(/^the program/, "the program is gone: it");
     if (working && waiting && !isCancelled) progress(working);
     newest = now;
-    if (picture && now > revision && !waiting) inTurn(refresh);
-    return undefined;
+    if (!picture || now <= revision || waiting) return;
+    // what another tab does takes no place in this tab's history
+    pushedAt = performance.now();
+    inTurn(refresh);
   });
   beats.addEventListener("error", () => { by("gone").hidden = false; by("gone").textContent = GONE; });
 }
