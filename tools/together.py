@@ -42,7 +42,7 @@ RIGHT = "-- right: "
 # what follows a function's name where it stands once more, as often as it does so
 AGAIN = "_again"
 # how often a function may stand once more
-MOST_AGAIN = 2
+MOST_AGAIN = 4
 
 # A function: its file, the last names that the prover has for it, its first line and its last.
 Function = collections.namedtuple("Function", "file names first last")
