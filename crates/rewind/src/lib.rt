@@ -1,13 +1,9 @@
-//! `rewind`, a reversible debugger of Naiad's progress protocol, as a library: a script of JSON
-//! lines is read from a source of bytes, and each line is answered to a sink of bytes.
+//! `rewind`, a reversible debugger of Naiad's progress protocol, as a library: what a program needs of the crates below to
+//! run a script.
 #![tactic(auto)]
 
-mod driver;
-mod options;
-mod run;
-
-pub use driver::{debug, debug_within};
 pub use nd_history::{Gate, OpenGate};
-pub use options::{WordsFault, options_of};
-pub use rewind_clients::{DebugFault, Options, debug_clients, debug_clients_within};
+pub use rewind_clients::{debug_clients, debug_clients_within};
 pub use rewind_forms::{LineFault, read_step};
+pub use rewind_options::{DebugFault, Options, WordsFault, options_of};
+pub use rewind_run::{debug, debug_within};

@@ -1,7 +1,5 @@
 -- The result of a version line, a blank line, or a line that is no JSON value, before the graph's line.
-use Rattle.std.proofs.Common.{◌≡◌, ℕ, [], ◌∷◌, Option, Some, None, Result, Ok, Err, IfOk, refl, ap}
-use Rattle.std.specs.Option.{option_to_list}
-use Rattle.std.specs.declared.alloc.AllocError.{AllocError}
+use Rattle.std.proofs.Common.{◌≡◌, ℕ, [], ◌∷◌, Option, Some, None, refl}
 use Rattle.serde_json.specs.Data.{Data}
 use Rattle.rewind_lines.specs.Lines.{blank, too_long, no_json, json}
 use Rattle.rewind_forms.specs.LineFaults.{code_of}
@@ -11,8 +9,7 @@ use Rattle.rewind_forms.specs.declared.version.Version.{Version}
 use Rattle.rewind_forms.specs.declared.fault.LineFault.TheVariants.{LineTooLong, BadLine}
 use Rattle.rewind_answers.specs.Answers.{unopened, unstarted, refused}
 use Rattle.rewind_clients.specs.Intake.{ReadsLine, nothing, opened, refused_graph}
-use Rattle.rewind_clients.specs.Intakes.{intake_view, unstarted_view}
-use Rattle.rewind_clients.specs.declared.intake.Intake.{Intake}
+use Rattle.rewind_clients.specs.Intakes.{unstarted_view}
 
 -- a blank line
 pub reads-blank : (p c n : ℕ) (v : Option Version) → ReadsLine p c (unstarted_view v) n blank (unstarted_view v)

@@ -7,7 +7,7 @@ use Rattle.rewind_lines.specs.Cuts.{lines-count, lines-split, whole_lines-empty,
 use Rattle.rewind_lines.specs.Front.{held_of}
 use Rattle.rewind_lines.specs.Known.{read-failed, read-none, read-on}
 use Rattle.rewind_lines.specs.Lines.{Reading, has_newline, last_line_of, lines_of, reading_of, whole_lines_of}
-use Rattle.rewind_clients.specs.declared.options.Options.{Options}
+use Rattle.rewind_options.specs.declared.options.Options.{Options}
 use Rattle.rewind_clients.specs.Intake.{Intake, Reads, ReadsLine, nothing}
 use Rattle.rewind_clients.specs.Intakes.{intake_view}
 use Rattle.rewind_clients.specs.Clients.{ReadPart, ReadWhole}

@@ -1,54 +1,24 @@
 -- What is written for a script, depending on how far its run came.
 use Rattle.std.proofs.Common.{◌≡◌, ◌∙◌, ℕ, ◌+◌, List, [], ◌∷◌, ◌++◌, length, take, Option, Some, None, Result, Err, Ok, OnOk, IfErr, false, refl, sym, ap, append_assoc}
-use Rattle.std.proofs.lemmas.List.{append-nil}
 use Rattle.std.proofs.Math.Seq.{take-append-add, take-append_seam}
 use Rattle.serde_json.specs.Data.{Data}
-use Rattle.rewind_lines.specs.Cuts.{take-clip}
 use Rattle.rewind_lines.specs.Known.{Known, text_of-append}
 use Rattle.rewind_lines.specs.Texts.{text_of}
 use Rattle.rewind_forms.specs.declared.version.Version.{Version}
 use Rattle.rewind_answers.specs.Answers.{Logged}
-use Rattle.rewind_clients.specs.Faults.{is_write_fault}
-use Rattle.rewind_clients.specs.declared.fault.DebugFault.{DebugFault}
-use Rattle.rewind_clients.specs.declared.fault.DebugFault.TheVariants as fault
+use Rattle.rewind_options.specs.Faults.{is_write_fault}
+use Rattle.rewind_options.specs.declared.fault.DebugFault.{DebugFault}
+use Rattle.rewind_options.specs.declared.fault.DebugFault.TheVariants as fault
 use Rattle.rewind_clients.specs.Clients.{Replies, Writes}
-use Rattle.rewind_clients.specs.Intake.{Commands, Intake, nothing, refused_graph, faulty_line, script}
-use Rattle.rewind_clients.specs.Intakes.{unstarted_view, version_replies}
-use Rattle.rewind_clients.specs.Gathered.{Gathered, StopsIn}
+use Rattle.rewind_clients.specs.Intake.{Intake, nothing, refused_graph, faulty_line, script}
+use Rattle.rewind_clients.specs.Intakes.{unstarted_view}
+use Rattle.rewind_sessions.specs.Gathered.{StopsIn, stops-more}
 use Rattle.rewind_clients.specs.Readers.{IsOfReading}
-use Rattle.rewind_clients.specs.Served.{IsOfDriving}
-use Rattle.rewind_clients.specs.Runs.{AreLines}
-use Rattle.rewind_clients.specs.Written.{WroteFront, WroteLines}
-use Rattle.rewind_clients.proofs.RunsLemmas.{front-of}
-
--- ---- an outbox at its beginning and its end
-
-pub none-gathered : (waiting before : List ℕ) (after : Known) → waiting ≡ [] → after ≡ Some before → Gathered [] waiting before after
-none-gathered waiting before after none told = record { sent = []; kept = []; split = refl; waits = none; written = told ∙ ap Some (sym (append-nil before)) }
-
-pub all-written : (replies : List Data) (waiting before : List ℕ) (after : Known) → Gathered replies waiting before after → waiting ≡ [] → after ≡ Some (before ++ text_of replies)
-all-written replies waiting before after h none =
-    h.written
-    ∙ ap (λ (t : List ℕ). Some (before ++ t))
-    (sym (ap text_of h.split ∙ (text_of-append h.sent h.kept ∙ (ap (λ (t : List ℕ). text_of h.sent ++ t) (sym h.waits ∙ none) ∙ append-nil (text_of h.sent)))))
+use Rattle.rewind_sessions.specs.Openings.{version_replies}
+use Rattle.rewind_sessions.specs.Runs.{AreLines, Commands, IsOfDriving}
+use Rattle.rewind_sessions.specs.Written.{WroteFront, WroteLines}
 
 -- ---- a part of the replies, and all of them
-
-lines-before : (xs ys : List Data) (before : List ℕ) (after : Known) → WroteLines xs before after → WroteLines (xs ++ ys) before after
-lines-before xs ys before after h = record {
-  count = length (take h.count xs);
-  written = h.written ∙ ap (λ (rs : List Data). Some (before ++ text_of rs)) (sym (take-clip h.count xs ys));
-}
-
--- it stops among some replies, so it stops among more
-pub stops-more : (xs ys : List Data) (before : List ℕ) (after : Known) (e : DebugFault) → StopsIn xs before after e → StopsIn (xs ++ ys) before after e
-stops-more xs ys before after fault.Memory h = lines-before xs ys before after h
-stops-more xs ys before after fault.Write h = front-of xs ys (xs ++ ys) before after h refl
-stops-more xs ys before after fault.Graph h = h
-stops-more xs ys before after fault.Script h = h
-stops-more xs ys before after fault.Read h = h
-stops-more xs ys before after fault.TooLong h = h
-stops-more xs ys before after fault.Close h = h
 
 joined : (before : List ℕ) (xs ys : List Data) → (before ++ text_of xs) ++ text_of ys ≡ before ++ text_of (xs ++ ys)
 joined before xs ys = append_assoc before (text_of xs) (text_of ys) ∙ ap (λ (t : List ℕ). before ++ t) (sym (text_of-append xs ys))
@@ -81,8 +51,8 @@ faulty-told reply before after e = (tt, (reply ∷ [], refl, e))
 -- it could not be written completely, and it is the first of these replies
 pub stops-in : (intake : Intake) (first lines : List Data) (before : List ℕ) (after : Known) (e : DebugFault) → Replies intake (first ++ lines)
     → StopsIn first before after e → Writes intake before after (Err e)
-stops-in intake first lines before after fault.Memory are h = (first ++ lines, are, lines-before first lines before after h)
-stops-in intake first lines before after fault.Write are h = (first ++ lines, are, front-of first lines (first ++ lines) before after h refl)
+stops-in intake first lines before after fault.Memory are h = (first ++ lines, are, stops-more first lines before after fault.Memory h)
+stops-in intake first lines before after fault.Write are h = (first ++ lines, are, stops-more first lines before after fault.Write h)
 stops-in intake first lines before after fault.Graph are h = absurd h
 stops-in intake first lines before after fault.Script are h = absurd h
 stops-in intake first lines before after fault.Read are h = absurd h

@@ -3,11 +3,11 @@ use Rattle.std.specs.Prelude.{◌≡◌, ℕ, ◌+◌, ◌<◌, ◌≤◌, List,
 use Rattle.serde_json.specs.Data.{Data}
 use Rattle.rewind_lines.specs.Lines.{lines_of}
 use Rattle.rewind_lines.specs.Texts.{text_of}
-use Rattle.rewind_clients.specs.declared.fault.DebugFault.{DebugFault}
-use Rattle.rewind_clients.specs.declared.fault.DebugFault.TheVariants as fault
+use Rattle.rewind_options.specs.declared.fault.DebugFault.{DebugFault}
+use Rattle.rewind_options.specs.declared.fault.DebugFault.TheVariants as fault
 use Rattle.rewind_clients.specs.Intake.{Intake, Reads, nothing, opened, refused_graph, faulty_line, script}
-use Rattle.rewind_clients.specs.Runs.{AreLines}
-use Rattle.rewind_clients.specs.Written.{WroteFront, WroteLines}
+use Rattle.rewind_sessions.specs.Runs.{AreLines}
+use Rattle.rewind_sessions.specs.Written.{WroteFront, WroteLines}
 
 -- the reader had `input` and has `left`: everything was read, at most `limit` bytes, and `intake` is the result of reading the
 -- lines

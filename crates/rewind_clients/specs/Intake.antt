@@ -1,19 +1,14 @@
 -- What results from reading the lines of a script of several clients, one after another.
 use Rattle.std.specs.Prelude.{◌≡◌, ℕ, ◌+◌, List, [], ◌∷◌, ◌++◌, length, replicate, slice_set, slice_index_or, Result, Ok, Err}
-use Rattle.std.specs.declared.alloc.Global.{Global}
 use Rattle.serde_json.specs.Data.{Data}
 use Rattle.nd_timeline.specs.Timeline.{cluster_of}
-use Rattle.nd_timeline.specs.declared.command.Command.{Command}
 use Rattle.rewind_lines.specs.Lines.{Reading, blank, reading_of}
 use Rattle.rewind_forms.specs.declared.version.Version.{Version}
 use Rattle.rewind_answers.specs.Answers.{Answers, Logged, Phase, unopened, unstarted, running, refused}
-use Rattle.rewind_clients.specs.Orders.{order_in, order_fault}
-use Rattle.rewind_clients.specs.declared.order.Order.{Order}
-use Rattle.rewind_clients.specs.declared.order.OrderFault.{OrderFault}
-
--- the commands of each client, in the order of its lines
-abbrev pub Commands : Type 0
-Commands = List (List (Command Global))
+use Rattle.rewind_sessions.specs.Orders.{order_in, order_fault}
+use Rattle.rewind_sessions.specs.Runs.{Commands}
+use Rattle.rewind_sessions.specs.declared.order.Order.{Order}
+use Rattle.rewind_sessions.specs.declared.order.OrderFault.{OrderFault}
 
 -- only blank lines so far; a version line, with its reply, and no graph yet; a refused graph's line, or a faulty line after the
 -- graph's, with its reply; or a script: the version, the opening replies (to the version line, if there is one, and to the

@@ -1,30 +1,21 @@
 -- What a value of the code's `Intake` stands for. Only private contracts use these definitions.
-use Rattle.std.specs.Prelude.{ℕ, List, [], ◌∷◌, ◌++◌, map, unwrap_or, Option, Some, None, Vec}
-use Rattle.std.specs.declared.alloc.Global.{Global}
+use Rattle.std.specs.Prelude.{ℕ, List, [], ◌∷◌, ◌++◌, unwrap_or, Option, Some, None}
 use Rattle.serde_json.specs.Data.{Data}
-use Rattle.nd_timeline.specs.declared.command.Command.{Command}
 use Rattle.rewind_replies.specs.Errors.{error_data}
 use Rattle.rewind_replies.specs.declared.replies.ErrorReply.{ErrorReply}
-use Rattle.rewind_replies.specs.declared.replies.GraphReply.{GraphReply}
-use Rattle.rewind_replies.specs.Replies.{graph as graph_reply, version as version_reply}
+use Rattle.rewind_replies.specs.Replies.{version as version_reply}
 use Rattle.rewind_forms.specs.Versions.{number_of}
 use Rattle.rewind_forms.specs.declared.version.Version.{Version}
 use Rattle.rewind_forms.specs.declared.version.Version.TheVariants.{First}
 use Rattle.rewind_answers.specs.Answers.{Phase, StartReplies, graph_of}
 use Rattle.rewind_answers.specs.Stages.{logged}
-use Rattle.rewind_clients.specs.Intake.{Commands, IsBegun, nothing, opened, refused_graph, faulty_line, script}
+use Rattle.rewind_sessions.specs.Openings.{opening_data, version_replies}
+use Rattle.rewind_sessions.specs.Runs.{lists_of}
+use Rattle.rewind_clients.specs.Intake.{IsBegun, nothing, opened, refused_graph, faulty_line, script}
 use Rattle.rewind_clients.specs.Intake as read
 use Rattle.rewind_clients.specs.declared.intake.Intake.{Intake}
 use Rattle.rewind_clients.specs.declared.intake.Script.{Script}
 use Rattle.rewind_clients.specs.declared.intake.Intake.TheVariants.{Unstarted, Refused, Faulty, Whole}
-
-abbrev pub lists_of : List (Vec (Command Global) Global) → Commands
-lists_of vs = map (λ v. v.items) vs
-
--- the reply to the version line, if there was one
-abbrev pub version_replies : Option Version → List Data
-version_replies None = []
-version_replies (Some version) = version_reply (number_of version) ∷ []
 
 -- before the graph's line, after a version line or none
 abbrev pub unstarted_view : Option Version → read.Intake
@@ -35,11 +26,7 @@ unstarted_view (Some version) = opened version (version_reply (number_of version
 abbrev pub version_of : Script → Version
 version_of s = unwrap_or s.opened First
 
--- the replies to a version line, if there was one, and to the graph
-abbrev pub opening_data : Option Version → GraphReply → List Data
-opening_data version reply = version_replies version ++ graph_reply reply.locations reply.processors ∷ []
-
--- those of a script
+-- the replies to a version line, if the script has one, and to its graph
 abbrev pub opening_replies : Script → List Data
 opening_replies s = opening_data s.opened s.reply
 

@@ -1,11 +1,4 @@
 pub mod Clients
-pub mod Faults
-pub mod Gathered
 pub mod Intake
 pub mod Intakes
-pub mod Numbers
-pub mod Orders
 pub mod Readers
-pub mod Served
-pub mod Runs
-pub mod Written

@@ -2,9 +2,9 @@
 use Rattle.std.specs.Prelude.{◌≡◌, ℕ, ◌+◌, List, ◌++◌, length, Option, Some}
 use Rattle.rewind_lines.specs.Front.{held_of}
 use Rattle.rewind_lines.specs.Lines.{whole_lines_of}
-use Rattle.rewind_clients.specs.declared.fault.DebugFault.{DebugFault}
-use Rattle.rewind_clients.specs.declared.fault.DebugFault.TheVariants as fault
-use Rattle.rewind_clients.specs.declared.options.Options.{Options}
+use Rattle.rewind_options.specs.declared.fault.DebugFault.{DebugFault}
+use Rattle.rewind_options.specs.declared.fault.DebugFault.TheVariants as fault
+use Rattle.rewind_options.specs.declared.options.Options.{Options}
 use Rattle.rewind_clients.specs.Intake.{Reads, nothing}
 use Rattle.rewind_clients.specs.Intakes.{intake_view}
 use Rattle.rewind_clients.specs.declared.reader.Reader.{Reader}
@@ -30,3 +30,9 @@ IsOfReading fault.Read = Unit {0}
 IsOfReading fault.TooLong = Unit {0}
 IsOfReading fault.Memory = Unit {0}
 IsOfReading _ = ⊥
+
+-- the errors of a script that was read completely
+abbrev pub IsOfAnswering : DebugFault → Type 0
+IsOfAnswering fault.Read = ⊥
+IsOfAnswering fault.TooLong = ⊥
+IsOfAnswering _ = Unit {0}

@@ -1,19 +1,18 @@
 //! A script of several clients from a source of bytes, its replies to a sink of bytes.
 ghost use Rattle.std.specs.Prelude.{◌≡◌, ◌+◌, ◌-◌, ◌<◌, ◌^◌, ℕ, List, Some, false, true, IfErr, OnOk};
 ghost use Rattle.nd_time.specs.Limits.{max_input};
-ghost use Rattle.rewind_clients.specs.Faults.{is_write_fault, is_read_fault};
+ghost use Rattle.rewind_options.specs.Faults.{is_write_fault, is_read_fault};
 ghost use Rattle.rewind_clients.specs.Clients.{Ends, Takes, Writes};
-ghost use Rattle.rewind_clients.specs.Served.{IsOfAnswering};
+ghost use Rattle.rewind_clients.specs.Readers.{IsOfAnswering};
 ghost use Rattle.rewind_clients.specs.Intakes.{intake_view, script_view};
 
-use crate::drive::drive_session;
 use crate::intake::{Intake, Script};
 use crate::reader::read_script;
-use crate::write::{write_log, write_opening, write_reply, write_version};
-use crate::{DebugFault, Options};
 use nd_history::Gate;
 use nd_time::limits::MAX_INPUT;
 use rewind_lines::{Sink, Source};
+use rewind_options::{DebugFault, Options};
+use rewind_sessions::{drive_session, write_log, write_opening, write_reply, write_version};
 use std::alloc::Global;
 use std::sync::Wait;
 use std::thread::Threads;

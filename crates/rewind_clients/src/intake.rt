@@ -8,18 +8,19 @@ ghost use Rattle.rewind_replies.specs.Errors.{error_data};
 ghost use Rattle.rewind_forms.specs.LineFaults.{code_of};
 ghost use Rattle.rewind_replies.specs.Replies.{faulty};
 ghost use Rattle.rewind_answers.specs.Stages.{logged};
-ghost use Rattle.rewind_clients.specs.Orders.{order_in as order_line};
+ghost use Rattle.rewind_sessions.specs.Orders.{order_in as order_line};
+ghost use Rattle.rewind_sessions.specs.Runs.{lists_of};
 ghost use Rattle.rewind_clients.specs.Intake.{ReadsLine, no_commands as no_commands_in, ordered, with_command};
-ghost use Rattle.rewind_clients.specs.Intakes.{intake_view, lists_of, opening_replies, or_faulty, unstarted_view, version_of as version_in, Starts};
+ghost use Rattle.rewind_clients.specs.Intakes.{intake_view, opening_replies, or_faulty, unstarted_view, version_of as version_in, Starts};
 
-use crate::Options;
-use crate::order::{Order, order_in};
 use nd_session::State;
 use nd_timeline::Command;
 use rewind_answers::{First, Started, answer_first};
 use rewind_forms::{LineFault, Version, version_of};
 use rewind_lines::Reading;
+use rewind_options::Options;
 use rewind_replies::{ErrorReply, GraphReply};
+use rewind_sessions::{Order, order_in};
 use serde_json::Value;
 use std::alloc::{AllocError, Global};
 

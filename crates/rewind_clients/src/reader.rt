@@ -1,14 +1,14 @@
 //! A complete script, from a source of bytes.
 ghost use Rattle.std.specs.Prelude.{◌≡◌, ◌+◌, ◌-◌, ◌<◌, ◌≤◌, ◌^◌, ◌∷◌, ◌++◌, [], ℕ, List, Some, false, true, length, IfOk, IfErr, OnOk};
-ghost use Rattle.rewind_clients.specs.Faults.{is_read_fault};
-ghost use Rattle.rewind_clients.specs.declared.options.Options.{Options as TheOptions};
+ghost use Rattle.rewind_options.specs.Faults.{is_read_fault};
+ghost use Rattle.rewind_options.specs.declared.options.Options.{Options as TheOptions};
 ghost use Rattle.rewind_clients.specs.Clients.{ReadFails, ReadWhole, Takes};
 ghost use Rattle.rewind_clients.specs.Intakes.{intake_view};
 ghost use Rattle.rewind_clients.specs.Readers.{IsOfReading, StandsAt};
 
 use crate::intake::Intake;
-use crate::{DebugFault, Options};
 use rewind_lines::{CHUNK, LineReader, Source, front, read_into};
+use rewind_options::{DebugFault, Options};
 use std::alloc::{AllocError, Global};
 
 /// What was read of a script, and the result.

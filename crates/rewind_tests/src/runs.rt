@@ -1,27 +1,20 @@
 //! Runs of one client.
 
-use crate::ends::{Asks, NEVER, Newlines, Spills, Stumbles, Told, empty_sink, pieces_of};
-use rewind::{DebugFault, Options, debug, debug_within};
 use rewind_lines::{ReadSource, WriteSink};
+use rewind_options::{DebugFault, Options};
+use rewind_run::{debug, debug_within};
+use rewind_testing::{
+    Asks, LINE, LINE_REPLY, NEVER, Newlines, Spills, Stumbles, Told, empty_sink, pieces_of,
+};
 use std::alloc::{AllocError, Global};
 use std::cell::Cell;
 use std::io::ErrorKind;
 use std::test::Fail;
 use std::thread::Threads;
 
-/// The graph of one input, one sink and an edge between them.
-pub const LINE: &str =
-    r#"{"vertices":[{"name":"a","op":"input","depth":0},{"name":"z","op":"sink","depth":0}],"edges":[{"name":"az","from":"a","port":0,"to":"z","route":"local"}]}"#;
-
-/// The graph of an input, a vertex that holds capabilities, and a sink in a row.
-pub const HELD: &str =
-    r#"{"vertices":[{"name":"a","op":"input","depth":0},{"name":"h","op":"hold","depth":0},{"name":"z","op":"sink","depth":0}],"edges":[{"name":"ah","from":"a","port":0,"to":"h","route":"local"},{"name":"hz","from":"h","port":0,"to":"z","route":"local"}]}"#;
-
 /// The graph of an input, an opaque vertex, and a sink at each of its two ports.
 pub const TRACED: &str =
     r#"{"vertices":[{"name":"a","op":"input","depth":0},{"name":"x","op":"opaque","depth":0,"ports":2},{"name":"y","op":"sink","depth":0},{"name":"z","op":"sink","depth":0}],"edges":[{"name":"ax","from":"a","port":0,"to":"x","route":"local"},{"name":"xy","from":"x","port":0,"to":"y","route":"local"},{"name":"xz","from":"x","port":1,"to":"z","route":"local"}]}"#;
-
-pub const LINE_REPLY: &str = "{\"locations\":3,\"ok\":true,\"processors\":1}\n";
 
 /// A script's lines, each with its reply. The last has no newline.
 static LINES: [(&str, &str); 8] = [

@@ -1,9 +1,10 @@
 //! Steps that a script exports, read back.
 
-use crate::runs::{HELD, ONE, TRACED, run};
+use crate::runs::{ONE, TRACED, run};
 use nd_graph::{Graph, GraphDraft};
 use rewind_forms::read_step;
 use rewind_replies::text_of;
+use rewind_testing::HELD;
 use serde_json::Value;
 use std::alloc::{AllocError, Global};
 use std::test::Fail;

@@ -120,7 +120,7 @@ def path_picture(told, number):
             ]
             parts.append(line(middle, 98, middle, 122, "line dashed"))
     parts.append(
-        text(20, 50, "rewind_answers walks it for one line, and rewind for all", "small soft start")
+        text(20, 50, "rewind_answers walks it for one line, and rewind_run for all", "small soft start")
     )
     parts += [
         text(20, 200, f"in, line {number}:", "soft start"),

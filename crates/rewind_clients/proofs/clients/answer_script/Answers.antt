@@ -2,9 +2,9 @@ use Rattle.std.proofs.Common.{◌∙◌, refl, ap}
 use Rattle.std.proofs.lemmas.Result.{err_from_is_err_and}
 use Rattle.nd_session.specs.Log.{opening_of}
 use Rattle.rewind_answers.specs.Stages.{logged}
-use Rattle.rewind_clients.specs.Intakes.{lists_of, opening_replies, script_view, version_of}
-use Rattle.rewind_clients.specs.Runs.{AreLines, lines_data, machine_of}
-use Rattle.rewind_clients.proofs.ServedLemmas.{opened-history, some-lines}
+use Rattle.rewind_clients.specs.Intakes.{opening_replies, script_view, version_of}
+use Rattle.rewind_sessions.specs.Runs.{AreLines, lines_data, lists_of, machine_of}
+use Rattle.rewind_clients.proofs.EmptyLogs.{opened-history, some-lines}
 use Rattle.rewind_clients.proofs.WrittenLemmas.{script-ends, stops-driving, stops-in}
 use Rattle.rewind_clients.proofs.clients.answer_script.Goals as goal
 

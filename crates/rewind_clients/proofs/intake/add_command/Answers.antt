@@ -1,4 +1,4 @@
-use Rattle.rewind_clients.proofs.ServedLemmas.{lists-set}
+use Rattle.rewind_clients.proofs.CommandsLemmas.{lists-set}
 use Rattle.rewind_clients.proofs.intake.add_command.Goals as goal
 
 pub returns : goal.returns

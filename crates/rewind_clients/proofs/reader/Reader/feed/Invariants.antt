@@ -1,5 +1,5 @@
 use Rattle.std.proofs.Common.{ℕ, ◌+◌, ◌-◌, ◌≤◌, List, ◌++◌, length, take}
-use Rattle.rewind_clients.specs.declared.options.Options.{Options}
+use Rattle.rewind_options.specs.declared.options.Options.{Options}
 use Rattle.rewind_clients.specs.Readers.{StandsAt}
 use Rattle.rewind_clients.proofs.reader.Reader.feed.Given as goal
 

@@ -1,6 +1,0 @@
-use Rattle.std.proofs.Common.{refl}
-use Rattle.rewind.proofs.StandLaws.{stands-new}
-use Rattle.rewind.proofs.run.Run.new.Goals as goal
-
-pub returns-clause-stands : goal.returns-clause-stands
-returns-clause-stands c = stands-new c.args.processors _ refl c.new.ensures.first c.new-2.ensures refl

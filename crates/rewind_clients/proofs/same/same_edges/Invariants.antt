@@ -1,6 +1,0 @@
-use Rattle.std.proofs.Common.{◌≡◌, ◌<◌, ℕ, get_or}
-use Rattle.nd_graph.specs.declared.graph.Edge.{Edge}
-use Rattle.rewind_clients.proofs.same.same_edges.Given as goal
-
-abbrev pub invariant-loop-i : goal.invariant-loop-i
-invariant-loop-i l = (k : ℕ) (d : Edge) → k < l.i → get_or l.one k d ≡ get_or l.other k d

@@ -1,0 +1,4 @@
+pub mod AnsweredLaws
+pub mod DriverLaws
+pub mod RunLaws
+pub mod StandLaws

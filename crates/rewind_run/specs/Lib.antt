@@ -1,0 +1,3 @@
+pub mod Faults
+pub mod Script
+pub mod States
