@@ -9,7 +9,6 @@ use Rattle.nd_breaks.specs.declared.condition.Quantifier.{Quantifier}
 use Rattle.rewind_forms.specs.Conditions.{lesser, beside, literal_of, literals_of, literals_read, with_literal, with_fault, IsOf}
 use Rattle.rewind_forms.specs.LineFaults.{code_of}
 use Rattle.rewind_forms.specs.declared.fault.LineFault.{LineFault}
-use Rattle.rewind_forms.specs.declared.fault.LineFault.TheVariants.{Memory}
 
 -- the literals that were read, followed by the others, or the error with the least number
 abbrev pub ahead : Result (List Literal) LineFault → Result (List Literal) LineFault → Result (List Literal) LineFault
@@ -43,7 +42,6 @@ pub record HaveRead (g : Dataflow) (quantifier : Quantifier) (ds : List Data) (i
   pub all : literals_of g ds ≡ ahead (literals_read read) (literals_of g (drop i ds))
   pub count : IfOk (literals_read read) (λ literals. length literals ≡ i)
   pub kind : IsOf quantifier read
-  pub known : IfErr (literals_read read) (λ e. e ≢ Memory)
 
 -- the next item of a list
 next_literal : (g : Dataflow) (ds : List Data) (i : ℕ) (d : Data) → i < length ds → d ≡ get_or ds i d
@@ -57,19 +55,6 @@ one_more : (r : Result (List Literal) LineFault) (l : Literal) (i : ℕ) → IfO
 one_more (Ok ls) l i count = length-append ls (l ∷ []) ∙ ap (λ n. n + 1) count
 one_more (Err e) l i count = count
 
-still_known : (r : Result (List Literal) LineFault) (l : Literal) → IfErr r (λ e. e ≢ Memory) → IfErr (with_literal r l) (λ e. e ≢ Memory)
-still_known (Ok ls) l known = tt
-still_known (Err e) l known = known
-
-one_of : (b : Bool) (e f : LineFault) → e ≢ Memory → f ≢ Memory → (if b then e else f) ≢ Memory
-one_of true e f known other = known
-one_of false e f known other = other
-
-fault_known : (r : Result (List Literal) LineFault) (f : LineFault) → IfErr r (λ e. e ≢ Memory) → f ≢ Memory → with_fault r f ≢ Memory
-unfolding lesser
-fault_known (Ok ls) f known other = other
-fault_known (Err e) f known other = one_of (nat_le (code_of e).number (code_of f).number) e f known other
-
 module _ (g : Dataflow) (quantifier : Quantifier) (ds : List Data) (i : ℕ) (d : Data) (lt : i < length ds) (is : d ≡ get_or ds i d) (read : Result (Option ConditionValue) LineFault) where
   -- one more literal
   pub read_literal : (new : Result (Option ConditionValue) LineFault) (l : Literal) → literal_of g d ≡ Ok l → literals_read new ≡ with_literal (literals_read read) l
@@ -81,18 +66,16 @@ module _ (g : Dataflow) (quantifier : Quantifier) (ds : List Data) (i : ℕ) (d 
         ∙ ap (λ r. ahead r (literals_of g (drop (i + 1) ds))) (sym more);
     count = subst (λ (r : Result (List Literal) LineFault). IfOk r (λ literals. length literals ≡ i + 1)) (sym more) (one_more (literals_read read) l i before.count);
     kind = kept before.kind;
-    known = subst (λ (r : Result (List Literal) LineFault). IfErr r (λ e. e ≢ Memory)) (sym more) (still_known (literals_read read) l before.known);
   }
 
   -- one more faulty literal
-  pub read_fault : (f e : LineFault) → f ≢ Memory → literal_of g d ≡ Err f → e ≡ with_fault (literals_read read) f
+  pub read_fault : (f e : LineFault) → literal_of g d ≡ Err f → e ≡ with_fault (literals_read read) f
       → HaveRead g quantifier ds i read → HaveRead g quantifier ds (i + 1) (Err e)
-  read_fault f e other literal more before = record {
+  read_fault f e literal more before = record {
     all = before.all
         ∙ ap (ahead (literals_read read)) (next_literal g ds i d lt is ∙ ap (λ r. beside r (literals_of g (drop (i + 1) ds))) literal)
         ∙ ahead_fault (literals_read read) (literals_of g (drop (i + 1) ds)) f
         ∙ ap (λ h. ahead (Err h) (literals_of g (drop (i + 1) ds))) (sym more);
     count = tt;
     kind = tt;
-    known = subst (λ h. h ≢ Memory) (sym more) (fault_known (literals_read read) f before.known other);
   }

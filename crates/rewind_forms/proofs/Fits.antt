@@ -1,22 +1,23 @@
 -- The graph has what a step that was read names.
 use Rattle.std.proofs.Common.{◌≡◌, ℕ, ◌<◌, ◌≤◌, Bool, true, false, cond, List, [], ◌∷◌, length, refl, sym, ap, subst, Option, Some, None, Result, Ok, Err, codes}
 use Rattle.std.specs.Prelude.{All as Each, IfOk, IfSome, nat_eq, nat_lt, slice_get, option_map}
-use Rattle.std.specs.Option.{option_map_or}
+use Rattle.std.specs.Option.{option_map_or, unwrap_or}
 use Rattle.std.specs.declared.alloc.Global.{Global}
 use Rattle.std.proofs.lemmas.Bool.{ltb-true, ltb-false, eqb-true}
 use Rattle.std.proofs.lemmas.List.Elements.{All-nil, All-cons}
 use Rattle.std.proofs.lemmas.Option.{cond_some, option_and_then_some}
 use Rattle.serde_json.specs.Data.{Data}
-use Rattle.nd_json.specs.Forms.{text_at, small_at, integer_at, boolean_at}
+use Rattle.serde_json.specs.Find.{get}
+use Rattle.nd_json.specs.Forms.{small, boolean_in, text_at, small_at, integer_at, list_at}
 use Rattle.nd_time.specs.Time.{Time}
 use Rattle.nd_graph.specs.Graph.{Dataflow, depths}
 use Rattle.nd_paths.specs.declared.point.Pointstamp.{Pointstamp}
 use Rattle.nd_protocol.specs.declared.step.Step.{Step}
 use Rattle.nd_graph.specs.Draft.{every}
-use Rattle.rewind_forms.specs.Forms.{given, after, numbers_at, named_at, points_at, values_at}
-use Rattle.rewind_forms.specs.Places.{location_named, vertex_named, edge_named, time_of, placed, are_known, point_named}
-use Rattle.rewind_forms.specs.Sends.{numbers_if, small_if, time_if, send_of}
-use Rattle.rewind_forms.specs.Steps.{next_at, feed_of, take_of, notice_of, release_of, move_of, keep_of, broadcast_of, part_of, receive_of, step_of, read_as, read_of}
+use Rattle.rewind_forms.specs.Forms.{given, after, if_any, are_read, time_in, named_at, listed_point, values_at}
+use Rattle.rewind_forms.specs.Places.{location_named, vertex_named, edge_named, time_of, placed, point_named, listed_location, placed_point}
+use Rattle.rewind_forms.specs.Sends.{send_of}
+use Rattle.rewind_forms.specs.Steps.{next_at, feed_of, take_of, notice_of, later_of, release_of, broadcast_of, part_of, receive_of, step_of, read_as, read_of}
 use Rattle.rewind_forms.specs.Grammar.{form_of}
 use Rattle.rewind_forms.specs.declared.version.Version.{Version}
 use Rattle.rewind_forms.specs.declared.version.Version.TheVariants.{Sixth}
@@ -26,7 +27,7 @@ use Rattle.rewind_forms.specs.declared.form.StepForm.{StepForm}
 use Rattle.rewind_forms.specs.declared.form.StepForm.TheVariants as form
 use Rattle.rewind_forms.specs.declared.fault.LineFault.{LineFault}
 use Rattle.rewind_forms.specs.declared.fault.LineFault.TheVariants.{BadShape, BadTime}
-use Rattle.rewind_forms.specs.Fitting.{HasDepth, NamesFit}
+use Rattle.rewind_forms.specs.Fitting.{HasDepth, LaterHasDepth, NamesFit}
 
 -- ---- what holds of a reading, if all its parts were read
 
@@ -144,37 +145,33 @@ notice_fits g d =
     if_given _ (named_at (codes "vertex") d) _ (NamesFit g) (λ named _.
     if_placed g (vertex_named g named.0) named.1 _ (NamesFit g) (λ q is. (vertex_is g named.0 q.location is.0, is.1))))
 
+made_is : {B : Type 0} {P : B → Type 0} (o : Option B) (found : Option B) → ((y : B) → o ≡ Some y → P y) → option_map (λ y. Some y) o ≡ Some found → IfSome found P
+made_is None found h e = absurd (cc)
+made_is {B} {P} (Some y) found h e = let same : Some y ≡ found = cc in subst (λ o. IfSome o P) same (h y refl)
+
+if_any_is : {A B : Type 0} (read : A → Option B) (P : B → Type 0) → ((x : A) (y : B) → read x ≡ Some y → P y)
+    → (o : Option A) (found : Option B) → if_any read o ≡ Some found → IfSome found P
+if_any_is read P h None found e = let same : None ≡ found = cc in subst (λ o. IfSome o P) same tt
+if_any_is read P h (Some x) found e = made_is (read x) found (λ y is. h x y is) e
+
+later_has : (g : Dataflow) (l : ℕ) (time : Option Time) (keep : Option Bool) → IfSome time (HasDepth g l) → LaterHasDepth g l (later_of time keep)
+later_has g l None keep h = tt
+later_has g l (Some t) keep h = h
+
 release_fits : (g : Dataflow) (d : Data) → IfOk (release_of g d) (NamesFit g)
 unfolding release_of
 release_fits g d =
     if_given _ (small_at (codes "p") d) _ (NamesFit g) (λ p _.
     if_given _ (named_at (codes "vertex") d) _ (NamesFit g) (λ named _.
-    if_placed g (vertex_named g named.0) named.1 _ (NamesFit g) (λ q is. (vertex_is g named.0 q.location is.0, is.1, tt))))
-
-move_fits : (g : Dataflow) (keep : Bool) (d : Data) → IfOk (move_of g keep d) (NamesFit g)
-unfolding move_of
-move_fits g keep d =
-    if_given _ (small_at (codes "p") d) _ (NamesFit g) (λ p _.
-    if_given _ (named_at (codes "vertex") d) _ (NamesFit g) (λ named _.
-    if_given _ (numbers_at (codes "to") d) _ (NamesFit g) (λ later _.
+    if_given _ (if_any time_in (get (codes "to") d)) _ (NamesFit g) (λ numbers _.
+    if_given _ (if_any boolean_in (get (codes "keep") d)) _ (NamesFit g) (λ keep _.
     if_given _ (vertex_named g named.0) _ (NamesFit g) (λ vertex is.
     if_given _ (time_of g vertex named.1) _ (NamesFit g) (λ time at.
-    if_given _ (time_of g vertex later) _ (NamesFit g) (λ to after_it.
-    (vertex_is g named.0 vertex is, time_is g vertex named.1 time at, time_is g vertex later to after_it)))))))
-
-keep_fits : (g : Dataflow) (d : Data) → IfOk (keep_of g d) (NamesFit g)
-unfolding keep_of
-keep_fits g d = if_given _ (boolean_at (codes "keep") d) _ (NamesFit g) (λ keep _. move_fits g keep d)
-
-made_if : (g : Dataflow) (l : ℕ) (o at : Option Time) → ((t : Time) → o ≡ Some t → HasDepth g l t) → given BadTime o (λ t. Ok (Some t)) ≡ Ok at
-    → IfSome at (HasDepth g l)
-made_if g l None at h e = absurd (cc)
-made_if g l (Some t) at h e = let same : Some t ≡ at = cc in subst (λ o. IfSome o (HasDepth g l)) same (h t refl)
-
-if_time : (g : Dataflow) (l : ℕ) (numbers : Option (List ℕ)) (at : Option Time) → time_if g l numbers ≡ Ok at → IfSome at (HasDepth g l)
-unfolding time_if
-if_time g l None at e = let same : None ≡ at = cc in subst (λ o. IfSome o (HasDepth g l)) same tt
-if_time g l (Some numbers) at e = made_if g l (time_of g l numbers) at (λ t is. time_is g l numbers t is) e
+    if_given _ (if_any (time_of g vertex) numbers) _ (NamesFit g) (λ later after_it. (
+      vertex_is g named.0 vertex is,
+      time_is g vertex named.1 time at,
+      later_has g vertex later keep (if_any_is (time_of g vertex) (HasDepth g vertex) (λ ns t. time_is g vertex ns t) numbers later after_it),
+    ))))))))
 
 send_fits : (g : Dataflow) (d : Data) → IfOk (send_of g d) (NamesFit g)
 unfolding send_of
@@ -183,12 +180,12 @@ send_fits g d =
     if_given _ (named_at (codes "vertex") d) _ (NamesFit g) (λ named _.
     if_given _ (small_at (codes "port") d) _ (NamesFit g) (λ port _.
     if_given _ (values_at (codes "values") d) _ (NamesFit g) (λ values _.
-    if_after (numbers_if (codes "at") d) _ (NamesFit g) (λ numbers _.
-    if_after (small_if (codes "dest") d) _ (NamesFit g) (λ dest _.
+    if_given _ (if_any time_in (get (codes "at") d)) _ (NamesFit g) (λ numbers _.
+    if_given _ (if_any small (get (codes "dest") d)) _ (NamesFit g) (λ dest _.
     if_given _ (vertex_named g named.0) _ (NamesFit g) (λ vertex is.
     if_given _ (time_of g vertex named.1) _ (NamesFit g) (λ time here.
-    if_after (time_if g vertex numbers) _ (NamesFit g) (λ at there.
-    (vertex_is g named.0 vertex is, time_is g vertex named.1 time here, if_time g vertex numbers at there))))))))))
+    if_given _ (if_any (time_of g vertex) numbers) _ (NamesFit g) (λ at there.
+    (vertex_is g named.0 vertex is, time_is g vertex named.1 time here, if_any_is (time_of g vertex) (HasDepth g vertex) (λ ns t. time_is g vertex ns t) numbers at there))))))))))
 
 all_fits : (g : Dataflow) (d : Data) → IfOk (broadcast_of d) (NamesFit g)
 unfolding broadcast_of
@@ -204,14 +201,22 @@ if_true : {B : Type 0} (b : Bool) (r : Result B LineFault) (e : LineFault) (P : 
 if_true true r e P h = h
 if_true false r e P h = tt
 
+placed_is_one : (g : Dataflow) (d : Data) (q : Pointstamp) → placed_point g d ≡ Some q → HasDepth g q.location q.time
+unfolding placed_point
+placed_is_one g d q e = option_and_then_some (point_named g) (listed_point d) q e (λ p _ is. point_is g p q is)
+
+all_are : (g : Dataflow) (ds : List Data) (o : Option (List Pointstamp)) → o ≡ every (placed_point g) ds → Each (λ q. HasDepth g q.location q.time) (unwrap_or o [])
+all_are g ds None e = All-nil _
+all_are g ds (Some points) e = every_is (placed_point g) (λ q. HasDepth g q.location q.time) (placed_is_one g) ds points (sym e)
+
 part_fits : (g : Dataflow) (d : Data) → IfOk (part_of g d) (NamesFit g)
 unfolding part_of
 part_fits g d =
     if_given _ (small_at (codes "p") d) _ (NamesFit g) (λ p _.
-    if_given _ (points_at (codes "part") d) _ (NamesFit g) (λ named _.
-    if_true (are_known g named) _ _ (NamesFit g)
-    (if_given _ (every (point_named g) named) _ (NamesFit g) (λ points is.
-    every_is (point_named g) (λ q. HasDepth g q.location q.time) (point_is g) named points is))))
+    if_given _ (list_at (codes "part") d) _ (NamesFit g) (λ ds _.
+    if_true (are_read listed_point ds) _ _ (NamesFit g)
+    (if_true (are_read (listed_location g) ds) _ _ (NamesFit g)
+    (if_true (are_read (placed_point g) ds) _ _ (NamesFit g) (all_are g ds (every (placed_point g) ds) refl)))))
 
 -- ---- all
 
@@ -220,8 +225,6 @@ step_fits v g form.Feed d = feed_fits v g d
 step_fits v g form.Take d = take_fits g d
 step_fits v g form.Notice d = notice_fits g d
 step_fits v g form.Release d = release_fits g d
-step_fits v g form.Move d = move_fits g false d
-step_fits v g form.Keep d = keep_fits g d
 step_fits v g form.Send d = send_fits g d
 step_fits v g form.Broadcast d = all_fits g d
 step_fits v g form.Part d = part_fits g d

@@ -1,11 +1,17 @@
 -- Names looked up in a graph: what is found is a location; and a location is found by its name, if all names are distinct.
-use Rattle.std.proofs.Common.{◌≡◌, ◌∙◌, ℕ, ◌+◌, ◌<◌, ◌≤◌, zero, suc, Bool, true, false, cond, nat_lt, List, [], ◌∷◌, length, get_or, map, refl, sym, subst, ap, arith, Some, None, length-append}
-use Rattle.std.proofs.lemmas.Bool.{or_parts, lt-ltb, ltb-true, le-ltb, eq-eqb}
+use Rattle.std.proofs.Common.{◌≡◌, ◌∙◌, ℕ, ◌+◌, ◌<◌, ◌≤◌, zero, suc, Bool, true, false, cond, nat_lt, List, [], ◌∷◌, length, get_or, map, refl, sym, subst, ap, arith, Option, Some, None, option_map, option_and_then, length-append}
+use Rattle.std.proofs.lemmas.Bool.{or_parts, lt-ltb, ltb-true, le-ltb, eq-eqb, ne_eqb}
 use Rattle.std.proofs.lemmas.List.{length-map}
 use Rattle.std.proofs.lemmas.List.Sums.{position_or_len_is}
 use Rattle.std.proofs.lemmas.Option.{slice_get_within}
 use Rattle.std.specs.List.{list_any, position, position_or_len}
-use Rattle.std.specs.Prelude.{IfSome}
+use Rattle.std.specs.Prelude.{IfSome, slice_get}
+use Rattle.std.specs.Option.{unwrap_or}
+use Rattle.serde_json.specs.Data.{Data}
+use Rattle.nd_json.specs.Forms.{small}
+use Rattle.nd_graph.specs.Draft.{every}
+use Rattle.rewind_forms.specs.Forms.{all_read}
+use Rattle.rewind_forms.proofs.ReadInTurn.{every-length}
 use Rattle.std.specs.Str.{bytes_eq}
 use Rattle.std.specs.Cmp.Lexicographic.{nat_list_eq_equiv}
 use Rattle.nd_time.specs.Time.{Time}
@@ -97,3 +103,22 @@ pub point-name_at : (g : Dataflow) (q : Pointstamp) → has_double (names g) ≡
     → point_named g (name_at g q.location, q.time.epoch ∷ q.time.counters) ≡ Some q
 unfolding point_named
 point-name_at g q once depth = rw (known g q.location q.time once depth, time-numbers g q.location q.time depth) refl
+
+-- numbers of another depth than that of the location are no time there
+pub other-depth : (g : Dataflow) (l n : ℕ) (d : Data) (ds : List Data) → slice_get (depths g) l ≡ Some n → (length ds ≡ n → ⊥)
+    → None ≡ time_of g l (all_read small (d ∷ ds))
+unfolding time_of
+other-depth g l n d ds depth other = none (small d) (every small ds) (λ ns is. every-length small ds ns is)
+  where
+    none : (o : Option ℕ) (rest : Option (List ℕ)) → ((ns : List ℕ) → rest ≡ Some ns → length ns ≡ length ds)
+        → None ≡ time_of g l (unwrap_or (option_and_then (λ x. option_map (λ xs. x ∷ xs) rest) o) [])
+    none None rest h = refl
+    none (Some x) None h = refl
+    none (Some x) (Some ns) h = rw (depth, ne_eqb (length ns) n (λ e. other (sym (h ns refl) ∙ e))) refl
+
+-- as many counters as loops around the location
+pub same-depth : (g : Dataflow) (l n : ℕ) (ds : List Data) (e : ℕ) (cs : List ℕ) → slice_get (depths g) l ≡ Some n → length ds ≡ n + 1
+    → every small ds ≡ Some (e ∷ cs) → time_of g l (all_read small ds) ≡ Some (record { epoch = e; counters = cs })
+unfolding time_of
+same-depth g l n ds e cs depth long read =
+    rw (read, depth, eq-eqb (length cs) n (omega (arith, every-length small ds (e ∷ cs) read, long))) refl

@@ -15,17 +15,17 @@ use Rattle.nd_protocol.specs.declared.times.Later.{Later}
 use Rattle.nd_protocol.specs.declared.part.Part.TheVariants.{All, Points}
 use Rattle.nd_protocol.specs.declared.step.Next.{Next as Afterwards}
 use Rattle.nd_protocol.specs.declared.step.Next.TheVariants as token
-use Rattle.rewind_forms.specs.Forms.{numbers_at, named_at, values_at, points_at, listed_point, alone}
-use Rattle.rewind_forms.specs.Places.{placed, are_known, point_named}
+use Rattle.rewind_forms.specs.Forms.{numbers_at, time_in, named_at, values_at, listed_point, alone}
+use Rattle.rewind_forms.specs.Places.{placed, listed_location, placed_point}
 use Rattle.rewind_forms.specs.Grammar.{steps, form_of}
-use Rattle.rewind_forms.specs.Steps.{epoch_at, next_at, feed_of, take_of, notice_of, release_of, move_of, keep_of, broadcast_of, part_of, receive_of, read_of}
+use Rattle.rewind_forms.specs.Steps.{epoch_at, next_at, feed_of, take_of, notice_of, release_of, broadcast_of, part_of, receive_of, read_of}
 use Rattle.rewind_forms.specs.declared.version.Version.TheVariants.{Sixth}
 use Rattle.nd_state_json.specs.Objects.{feed_object, take_object, notice_object, move_object, release_object, broadcast_object, receive_object, object_of}
 use Rattle.nd_protocol.specs.Ranges.{NumbersFit, IsSmall, NextIsSmall, TimeIsSmall, TimesAreSmall}
 use Rattle.rewind_forms.specs.Fitting.{HasDepth, LaterHasDepth, NamesFit}
 use Rattle.rewind_forms.proofs.NamesLemmas.{vertex-name_at, edge-name_at, time-numbers, known, point-name_at}
 use Rattle.rewind_forms.proofs.SendBack.{sent_back}
-use Rattle.rewind_forms.proofs.Values.{every_as, every_back, list-row, small-natural, integer-whole, integers-whole, numbers-natural, named, point-data}
+use Rattle.rewind_forms.proofs.Values.{are_read-as, every_back, list-row, small-natural, integer-whole, integers-whole, numbers-natural, named, point-data}
 
 -- ---- one kind of step after the other
 
@@ -48,54 +48,58 @@ unfolding notice_of placed
 notice_back g p vertex t once there depth h k =
     rw (small-natural p h, notice_named g p vertex t k, vertex-name_at g vertex once there, time-numbers g vertex t depth) refl
 
-release_named : (g : Dataflow) (p vertex : ℕ) (t : Time) → TimeIsSmall t
-    → named_at (codes "vertex") (release_object g p vertex t None) ≡ Some (name_at g vertex, t.epoch ∷ t.counters)
-unfolding named_at numbers_at text
-release_named g p vertex t h = rw (list-row (map natural (t.epoch ∷ t.counters)), numbers-natural t h) refl
+-- ---- a release: of one time, or of an earlier and a later one, the capability at the earlier one kept or not
+
+abbrev numbers : Time → List ℕ
+numbers t = t.epoch ∷ t.counters
 
 release_back : (g : Dataflow) (p vertex : ℕ) (t : Time) → has_double (names g) ≡ false → vertex < length g.vertices → HasDepth g vertex t
     → IsSmall p → TimeIsSmall t → release_of g (release_object g p vertex t None) ≡ Ok (Release p vertex (record { time = t; to = None }))
-unfolding release_of placed
+unfolding release_of named_at numbers_at text
 release_back g p vertex t once there depth h k =
-    rw (small-natural p h, release_named g p vertex t k, vertex-name_at g vertex once there, time-numbers g vertex t depth) refl
-
--- ---- a capability at a later time, the earlier one kept or not
-
-move_named : (g : Dataflow) (p vertex : ℕ) (t to : Time) (keep : Bool) → TimeIsSmall t
-    → named_at (codes "vertex") (move_object g p vertex t to keep) ≡ Some (name_at g vertex, t.epoch ∷ t.counters)
-unfolding named_at numbers_at text
-move_named g p vertex t to true h = rw (list-row (map natural (t.epoch ∷ t.counters)), numbers-natural t h) refl
-move_named g p vertex t to false h = rw (list-row (map natural (t.epoch ∷ t.counters)), numbers-natural t h) refl
-
-later_back : (g : Dataflow) (p vertex : ℕ) (t to : Time) (keep : Bool) → TimeIsSmall to
-    → numbers_at (codes "to") (move_object g p vertex t to keep) ≡ Some (to.epoch ∷ to.counters)
-unfolding numbers_at
-later_back g p vertex t to true h = rw (list-row (map natural (to.epoch ∷ to.counters)), numbers-natural to h) refl
-later_back g p vertex t to false h = rw (list-row (map natural (to.epoch ∷ to.counters)), numbers-natural to h) refl
+    rw (small-natural p h, list-row (map natural (numbers t)), numbers-natural t k, vertex-name_at g vertex once there, time-numbers g vertex t depth) refl
 
 -- the release that moves or keeps
 abbrev moving : ℕ → ℕ → Time → Time → Bool → Step Global
 moving p vertex t to keep = Release p vertex (record { time = t; to = Some (record { time = to; keep = keep }) })
 
-move_back : (g : Dataflow) (p vertex : ℕ) (t to : Time) (keep : Bool) → has_double (names g) ≡ false → vertex < length g.vertices → HasDepth g vertex t
-    → HasDepth g vertex to → IsSmall p → TimeIsSmall t → TimeIsSmall to → move_of g keep (move_object g p vertex t to keep) ≡ Ok (moving p vertex t to keep)
-unfolding move_of
-move_back g p vertex t to true once there depth later h k j =
-    rw (small-natural p h, move_named g p vertex t to true k, later_back g p vertex t to true j, vertex-name_at g vertex once there, time-numbers g vertex t depth, time-numbers g vertex to later) refl
-move_back g p vertex t to false once there depth later h k j =
-    rw (small-natural p h, move_named g p vertex t to false k, later_back g p vertex t to false j, vertex-name_at g vertex once there, time-numbers g vertex t depth, time-numbers g vertex to later) refl
+module _ (g : Dataflow) (p vertex : ℕ) (t to : Time) (once : has_double (names g) ≡ false) (there : vertex < length g.vertices) (depth : HasDepth g vertex t)
+    (later : HasDepth g vertex to) (h : IsSmall p) (k : TimeIsSmall t) (j : TimeIsSmall to) where
+  move_back : (keep : Bool) → release_of g (move_object g p vertex t to keep) ≡ Ok (moving p vertex t to keep)
+  unfolding release_of named_at numbers_at time_in text boolean_in
+  move_back true =
+      rw (
+        small-natural p h,
+        list-row (map natural (numbers t)),
+        numbers-natural t k,
+        list-row (map natural (numbers to)),
+        numbers-natural to j,
+        vertex-name_at g vertex once there,
+        time-numbers g vertex t depth,
+        time-numbers g vertex to later,
+      ) refl
+  move_back false =
+      rw (
+        small-natural p h,
+        list-row (map natural (numbers t)),
+        numbers-natural t k,
+        list-row (map natural (numbers to)),
+        numbers-natural to j,
+        vertex-name_at g vertex once there,
+        time-numbers g vertex t depth,
+        time-numbers g vertex to later,
+      ) refl
 
-moved_back : (g : Dataflow) (p vertex : ℕ) (t to : Time) (keep : Bool) → has_double (names g) ≡ false → vertex < length g.vertices → HasDepth g vertex t
-    → HasDepth g vertex to → IsSmall p → TimeIsSmall t → TimeIsSmall to → read_of g (move_object g p vertex t to keep) ≡ Ok (moving p vertex t to keep)
-unfolding read_of form_of steps has_keys text keep_of boolean_in
-moved_back g p vertex t to true once there depth later h k j = rw (move_back g p vertex t to true once there depth later h k j) refl
-moved_back g p vertex t to false once there depth later h k j = rw (move_back g p vertex t to false once there depth later h k j) refl
+  moved_back : (keep : Bool) → read_of g (move_object g p vertex t to keep) ≡ Ok (moving p vertex t to keep)
+  unfolding read_of form_of steps has_keys text
+  moved_back true = rw (move_back true) refl
+  moved_back false = rw (move_back false) refl
 
 released_back : (g : Dataflow) (p vertex : ℕ) (t : Time) (to : Option Later) → has_double (names g) ≡ false → vertex < length g.vertices → HasDepth g vertex t
     → LaterHasDepth g vertex to → IsSmall p → TimesAreSmall t to → read_of g (release_object g p vertex t to) ≡ Ok (Release p vertex (record { time = t; to = to }))
 unfolding read_of form_of steps has_keys text
 released_back g p vertex t None once there depth later h k = rw (release_back g p vertex t once there depth h k) refl
-released_back g p vertex t (Some to) once there depth later h k = moved_back g p vertex t to.time to.keep once there depth later h k.0 k.1
+released_back g p vertex t (Some to) once there depth later h k = moved_back g p vertex t to.time once there depth later h k.0 k.1 to.keep
 
 take_named : (g : Dataflow) (p edge : ℕ) (t : Time) (value : ℤ) → TimeIsSmall t
     → named_at (codes "edge") (take_object g p edge t value) ≡ Some (name_at g edge, t.epoch ∷ t.counters)
@@ -133,25 +137,29 @@ feed_back g p vertex values then once there h k j =
 
 -- ---- a broadcast of a part
 
-points_named_back : (g : Dataflow) (p : ℕ) (points : List Pointstamp) → Each (λ q. TimeIsSmall q.time) points
-    → points_at (codes "part") (broadcast_object g p (Points points)) ≡ Some (map (named g) points)
-unfolding points_at
-points_named_back g p points h =
-    rw (list-row (map (point_data g) points)) (every_as listed_point (point_data g) (named g) points (λ k d lt. point-data g _ (h k d lt)))
+location_back : (g : Dataflow) (q : Pointstamp) → has_double (names g) ≡ false → HasDepth g q.location q.time → TimeIsSmall q.time
+    → listed_location g (point_data g q) ≡ Some q.location
+unfolding listed_location
+location_back g q once there h = rw (point-data g q h, known g q.location q.time once there) refl
 
-all_known : (g : Dataflow) (points : List Pointstamp) → has_double (names g) ≡ false → Each (λ q. HasDepth g q.location q.time) points
-    → are_known g (map (named g) points) ≡ true
-all_known g [] once h = refl
-all_known g (q ∷ points) once h =
-    let P : Pointstamp → Type 0 = λ q. HasDepth g q.location q.time in
-    rw (known g q.location q.time once (All-head P q points h)) (all_known g points once (All-tail P q points h))
+point_back : (g : Dataflow) (q : Pointstamp) → has_double (names g) ≡ false → HasDepth g q.location q.time → TimeIsSmall q.time
+    → placed_point g (point_data g q) ≡ Some q
+unfolding placed_point
+point_back g q once there h = rw (point-data g q h, point-name_at g q once there) refl
 
 part_back : (g : Dataflow) (p : ℕ) (points : List Pointstamp) → has_double (names g) ≡ false → Each (λ q. HasDepth g q.location q.time) points
     → IsSmall p → Each (λ q. TimeIsSmall q.time) points → part_of g (broadcast_object g p (Points points)) ≡ Ok (Broadcast p (Points points))
 unfolding part_of
 part_back g p points once there h k =
-    let read = every_back (point_named g) (named g) points (λ i d lt. point-name_at g _ once (there i d lt)) in
-    rw (small-natural p h, points_named_back g p points k, all_known g points once there, read) refl
+    let shown = point_data g in
+    rw (
+      small-natural p h,
+      list-row (map shown points),
+      are_read-as listed_point shown (named g) points (λ i d lt. point-data g _ (k i d lt)),
+      are_read-as (listed_location g) shown (λ q. q.location) points (λ i d lt. location_back g _ once (there i d lt) (k i d lt)),
+      are_read-as (placed_point g) shown (λ q. q) points (λ i d lt. point_back g _ once (there i d lt) (k i d lt)),
+      every_back (placed_point g) shown points (λ i d lt. point_back g _ once (there i d lt) (k i d lt)),
+    ) refl
 
 -- ---- all
 

@@ -6,7 +6,7 @@ use Rattle.std.specs.Cmp.Lexicographic.{slice_cmp}
 use Rattle.std.specs.declared.alloc.Global.{Global}
 use Rattle.std.specs.declared.cmp.Ordering.TheVariants.{Greater}
 use Rattle.serde_json.specs.Data.{Data, Members, object}
-use Rattle.serde_json.specs.Find.{get_member}
+use Rattle.serde_json.specs.Find.{get, get_member}
 use Rattle.nd_json.specs.Forms.{has_keys, text, small, small_at}
 use Rattle.nd_time.specs.Time.{Time}
 use Rattle.nd_graph.specs.Graph.{Dataflow, names}
@@ -16,10 +16,10 @@ use Rattle.nd_protocol.specs.Ranges.{IsSmall, TimeIsSmall, BatchIsSmall}
 use Rattle.nd_protocol.specs.declared.step.Step.{Step}
 use Rattle.nd_protocol.specs.declared.step.Step.TheVariants.{Send}
 use Rattle.nd_protocol.specs.declared.batch.Batch.{Batch}
-use Rattle.rewind_forms.specs.Forms.{given, after, numbers_at, named_at, values_at}
+use Rattle.rewind_forms.specs.Forms.{given, if_any, numbers_at, time_in, named_at, values_at}
 use Rattle.rewind_forms.specs.Places.{vertex_named, time_of}
 use Rattle.rewind_forms.specs.Grammar.{steps, form_of}
-use Rattle.rewind_forms.specs.Sends.{numbers_if, small_if, time_if, send_of}
+use Rattle.rewind_forms.specs.Sends.{send_of}
 use Rattle.rewind_forms.specs.Steps.{read_as, read_of}
 use Rattle.rewind_forms.specs.declared.version.Version.TheVariants.{Sixth}
 use Rattle.rewind_forms.specs.declared.form.Form.TheVariants as line
@@ -36,10 +36,6 @@ use Rattle.rewind_forms.proofs.Values.{list-row, small-natural, integers-whole, 
 got : {A B : Type 0} (fault : LineFault) (o : Option A) (x : A) (made : A → Result B LineFault) (r : Result B LineFault) → o ≡ Some x → made x ≡ r
     → given fault o made ≡ r
 got fault o x made r e h = ap (λ o. given fault o made) e ∙ h
-
-gone : {A B : Type 0} (read : Result A LineFault) (x : A) (made : A → Result B LineFault) (r : Result B LineFault) → read ≡ Ok x → made x ≡ r
-    → after read made ≡ r
-gone read x made r e h = ap (λ o. after o made) e ∙ h
 
 -- a key after "at" and "dest" is looked up behind them
 past : (k : List ℕ) (at : Option Time) (dest : Option ℕ) (ms : Members) → slice_cmp nat_cmp k (codes "at") ≡ Greater
@@ -78,21 +74,19 @@ module _ (g : Dataflow) (p vertex : ℕ) (b : Batch Global) where
   values_back at dest h =
       rw (past (codes "values") at dest ms refl refl, list-row (map whole b.values), integers-whole b.values h) refl
 
-  at_back : (at : Option Time) (dest : Option ℕ) → IfSome at TimeIsSmall → numbers_if (codes "at") (sent at dest) ≡ Ok (option_map numbers at)
-  unfolding numbers_if numbers_at
+  at_back : (at : Option Time) (dest : Option ℕ) → IfSome at TimeIsSmall → if_any time_in (get (codes "at") (sent at dest)) ≡ Some (option_map numbers at)
+  unfolding time_in
   at_back None None h = refl
   at_back None (Some q) h = refl
   at_back (Some t) dest h = rw (list-row (map natural (numbers t)), numbers-natural t h) refl
 
-  dest_back : (at : Option Time) (dest : Option ℕ) → IfSome dest IsSmall → small_if (codes "dest") (sent at dest) ≡ Ok dest
-  unfolding small_if
+  dest_back : (at : Option Time) (dest : Option ℕ) → IfSome dest IsSmall → if_any small (get (codes "dest") (sent at dest)) ≡ Some dest
   dest_back None None h = refl
   dest_back (Some t) None h = refl
   dest_back None (Some q) h = rw (small-natural q h) refl
   dest_back (Some t) (Some q) h = rw (small-natural q h) refl
 
-  time_back : (at : Option Time) → IfSome at (HasDepth g vertex) → time_if g vertex (option_map numbers at) ≡ Ok at
-  unfolding time_if
+  time_back : (at : Option Time) → IfSome at (HasDepth g vertex) → if_any (time_of g vertex) (option_map numbers at) ≡ Some at
   time_back None h = refl
   time_back (Some t) h = rw (time-numbers g vertex t h) refl
 
@@ -114,11 +108,11 @@ module _ (g : Dataflow) (p vertex : ℕ) (b : Batch Global) where
       (got _ (named_at (codes "vertex") d) (name_at g vertex, numbers b.time) _ _ (named_back b.at b.dest k.time)
       (got _ (small_at (codes "port") d) b.port _ _ (port_back b.at b.dest k.port)
       (got _ (values_at (codes "values") d) b.values _ _ (values_back b.at b.dest k.values)
-      (gone (numbers_if (codes "at") d) (option_map numbers b.at) _ _ (at_back b.at b.dest k.at)
-      (gone (small_if (codes "dest") d) b.dest _ _ (dest_back b.at b.dest k.dest)
+      (got _ (if_any time_in (get (codes "at") d)) (option_map numbers b.at) _ _ (at_back b.at b.dest k.at)
+      (got _ (if_any small (get (codes "dest") d)) b.dest _ _ (dest_back b.at b.dest k.dest)
       (got _ (vertex_named g (name_at g vertex)) vertex _ _ (vertex-name_at g vertex once there.0)
       (got _ (time_of g vertex (numbers b.time)) b.time _ _ (time-numbers g vertex b.time there.1)
-      (gone (time_if g vertex (option_map numbers b.at)) b.at _ _ (time_back b.at there.2) refl))))))))
+      (got _ (if_any (time_of g vertex) (option_map numbers b.at)) b.at _ _ (time_back b.at there.2) refl))))))))
 
   pub sent_back : has_double (names g) ≡ false → NamesFit g (Send p vertex b) → IsSmall p → BatchIsSmall b
       → read_of g (send_object g p vertex b) ≡ Ok (Send p vertex b)

@@ -1,5 +1,5 @@
 -- Numbers, lists of numbers and pointstamps as JSON values are read back.
-use Rattle.std.proofs.Common.{◌≡◌, ℕ, ◌≤◌, ◌^◌, ℤ, pos, negsuc, List, [], ◌∷◌, map, refl, ap, Option, Some, FitsSigned, w64, arith}
+use Rattle.std.proofs.Common.{◌≡◌, ℕ, ◌≤◌, ◌^◌, true, ℤ, pos, negsuc, List, [], ◌∷◌, map, refl, ap, Option, Some, FitsSigned, w64, arith}
 use Rattle.std.specs.Prelude.{All}
 use Rattle.std.proofs.lemmas.Bool.{lt-ltb}
 use Rattle.std.proofs.lemmas.List.Elements.{All-head, All-tail}
@@ -11,18 +11,18 @@ use Rattle.nd_graph.specs.Graph.{Dataflow}
 use Rattle.nd_paths.specs.declared.point.Pointstamp.{Pointstamp}
 use Rattle.nd_state_json.specs.StateText.{row, natural, whole, name_at, place, time_data, point_data}
 use Rattle.nd_graph.specs.Draft.{every}
-use Rattle.rewind_forms.specs.Forms.{numbers_of, point_of, listed_point, named_time}
+use Rattle.rewind_forms.specs.Forms.{are_read, numbers_of, point_of, listed_point, named_time}
 use Rattle.nd_protocol.specs.Ranges.{IsSmall, TimeIsSmall}
 
 -- ---- lists
 
--- what is read of each item, if each item is the value of another
-pub every_as : {A B C : Type 0} (f : A → Option C) (shown : B → A) (r : B → C) (xs : List B) → All (λ x. f (shown x) ≡ Some (r x)) xs
-    → every f (map shown xs) ≡ Some (map r xs)
-every_as f shown r [] h = refl
-every_as {A} {B} {C} f shown r (x ∷ xs) h =
+-- each item can be read, if each is the value of another
+pub are_read-as : {A B C : Type 0} (f : A → Option C) (shown : B → A) (r : B → C) (xs : List B) → All (λ x. f (shown x) ≡ Some (r x)) xs
+    → are_read f (map shown xs) ≡ true
+are_read-as f shown r [] h = refl
+are_read-as {A} {B} {C} f shown r (x ∷ xs) h =
     let P : B → Type 0 = λ x. f (shown x) ≡ Some (r x) in
-    rw (All-head P x xs h, every_as f shown r xs (All-tail P x xs h)) refl
+    rw (All-head P x xs h) (are_read-as f shown r xs (All-tail P x xs h))
 
 pub every_back : {A B : Type 0} (f : A → Option B) (shown : B → A) (xs : List B) → All (λ x. f (shown x) ≡ Some x) xs
     → every f (map shown xs) ≡ Some xs

@@ -2,7 +2,7 @@
 use Rattle.std.specs.Prelude.{ℕ, Bool, true, false, ◌&&◌, not, List, [], ◌∷◌, if◌then◌else◌, Option, Some, None, option_and_then, codes}
 use Rattle.std.specs.Str.{bytes_eq}
 use Rattle.serde_json.specs.Data.{Data}
-use Rattle.nd_json.specs.Forms.{text, list_at}
+use Rattle.nd_json.specs.Forms.{text, list}
 use Rattle.nd_cluster.specs.declared.moves.Allowed.{Allowed}
 
 -- no word
@@ -26,6 +26,6 @@ allowed_of (d ∷ []) = with_item nothing_allowed d
 allowed_of (d ∷ e ∷ []) = option_and_then (λ old. with_item old e) (with_item nothing_allowed d)
 allowed_of (d ∷ e ∷ f ∷ ds) = None
 
--- the words in the list at the key
-unfoldable pub allowed_at : List ℕ → Data → Option Allowed
-allowed_at key d = option_and_then allowed_of (list_at key d)
+-- the words that a value lists
+unfoldable pub allowed_in : Data → Option Allowed
+allowed_in d = option_and_then allowed_of (list d)

@@ -1,13 +1,13 @@
 -- What a line asks for: a step, another command, or a query.
-use Rattle.std.specs.Prelude.{Result, Ok, IsSomeAnd}
+use Rattle.std.specs.Prelude.{Result, Ok}
 use Rattle.serde_json.specs.Data.{Data}
 use Rattle.nd_graph.specs.Graph.{Dataflow}
 use Rattle.nd_timeline.specs.declared.command.Command.TheVariants.{Forward}
 use Rattle.rewind_forms.specs.Forms.{given, after}
 use Rattle.rewind_forms.specs.Grammar.{form_of}
-use Rattle.rewind_forms.specs.Steps.{step_of, StepAsks}
-use Rattle.rewind_forms.specs.Commands.{command_of, CommandAsks}
-use Rattle.rewind_forms.specs.Queries.{query_of, QueryAsks}
+use Rattle.rewind_forms.specs.Steps.{step_of}
+use Rattle.rewind_forms.specs.Commands.{command_of}
+use Rattle.rewind_forms.specs.Queries.{query_of}
 use Rattle.rewind_forms.specs.declared.version.Version.{Version}
 use Rattle.rewind_forms.specs.declared.form.Form.{Form}
 use Rattle.rewind_forms.specs.declared.form.Form.TheVariants.{Step, Command, Query}
@@ -25,15 +25,3 @@ asked_as v g d (Query form) = after (query_of v g form d) (λ query. Ok (Look qu
 -- what a line of a script of this version asks for, against a graph
 unfoldable pub asked_of : Version → Dataflow → Data → Result Asked LineFault
 asked_of v g d = given BadShape (form_of v d) (asked_as v g d)
-
--- ---- when reading may run out of memory
-
--- a line of this form asks for memory
-abbrev pub FormAsks : Version → Dataflow → Data → Form → Type 0
-FormAsks v g d (Step form) = StepAsks form d
-FormAsks v g d (Command form) = CommandAsks v g form d
-FormAsks v g d (Query form) = QueryAsks v form d
-
--- reading a line of a script of this version asks for memory
-unfoldable pub LineAsks : Version → Dataflow → Data → Type 0
-LineAsks v g d = IsSomeAnd (form_of v d) (FormAsks v g d)

@@ -1,11 +1,11 @@
 -- An atom of a condition. The shapes of its values are tested first, then the name, then the time.
-use Rattle.std.specs.Prelude.{[], ◌∷◌, codes, Result, Ok, Err, IsSomeAnd}
+use Rattle.std.specs.Prelude.{[], ◌∷◌, codes, Result, Ok, Err}
 use Rattle.serde_json.specs.Data.{Data}
 use Rattle.nd_json.specs.Forms.{text_at, small_at, whole_at, integer_at}
 use Rattle.nd_graph.specs.Graph.{Dataflow}
 use Rattle.nd_breaks.specs.declared.condition.Atom.{Atom}
 use Rattle.nd_breaks.specs.declared.condition.Atom.TheVariants.{Passed, Count, Queue, Sink, Finished, View}
-use Rattle.rewind_forms.specs.Forms.{given, after, within, inner, Either, HasNamed}
+use Rattle.rewind_forms.specs.Forms.{given, after, within, inner}
 use Rattle.rewind_forms.specs.Places.{vertex_named, point_there}
 use Rattle.rewind_forms.specs.declared.fault.LineFault.{LineFault}
 use Rattle.rewind_forms.specs.declared.fault.LineFault.TheVariants.{BadShape, UnknownName}
@@ -68,28 +68,3 @@ atom_of g d =
     within (inner (codes "finished") (codes "at" ∷ codes "time" ∷ []) d) (finished_of g)
     (within (inner (codes "view") (codes "at" ∷ codes "at_least" ∷ codes "q" ∷ codes "time" ∷ []) d) (view_of g)
     (first_atom_of g d))
-
--- ---- when reading may run out of memory
-
--- {"at":name,"q":n,"time":t}
-abbrev pub PassedAsks : Data → Type 0
-PassedAsks d = IsSomeAnd (small_at (codes "q") d) (λ q. HasNamed (codes "at") d)
-
--- {"at":name,"at_least":n,"time":t}
-unfoldable pub CountAsks : Data → Type 0
-CountAsks d = IsSomeAnd (whole_at (codes "at_least") d) (λ at_least. HasNamed (codes "at") d)
-
--- {"at":name,"at_least":n,"q":n,"time":t}
-unfoldable pub ViewAsks : Data → Type 0
-ViewAsks d = IsSomeAnd (integer_at (codes "at_least") d) (λ at_least. PassedAsks d)
-
-unfoldable pub FirstAtomAsks : Data → Type 0
-FirstAtomAsks d =
-    Either (inner (codes "passed") (codes "at" ∷ codes "q" ∷ codes "time" ∷ []) d) PassedAsks
-    (Either (inner (codes "count") (codes "at" ∷ codes "at_least" ∷ codes "time" ∷ []) d) CountAsks ⊥)
-
-unfoldable pub AtomAsks : Data → Type 0
-AtomAsks d =
-    Either (inner (codes "finished") (codes "at" ∷ codes "time" ∷ []) d) (HasNamed (codes "at"))
-    (Either (inner (codes "view") (codes "at" ∷ codes "at_least" ∷ codes "q" ∷ codes "time" ∷ []) d) ViewAsks
-    (FirstAtomAsks d))

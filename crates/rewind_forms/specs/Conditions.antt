@@ -1,5 +1,5 @@
 -- The condition that a line names: before the fourth version an atom; from then on a literal, or all or any of several literals.
-use Rattle.std.specs.Prelude.{◌≡◌, ◌<◌, ◌⊎◌, true, false, List, [], ◌∷◌, ◌++◌, if◌then◌else◌, length, nat_le, codes, Option, Some, None, Result, Ok, Err, IfOk, IfSome, Any as OneOf, IsSomeAnd}
+use Rattle.std.specs.Prelude.{◌≡◌, ◌<◌, List, [], ◌∷◌, ◌++◌, if◌then◌else◌, length, nat_le, codes, Option, Some, None, Result, Ok, Err, IfOk, IfSome}
 use Rattle.serde_json.specs.Data.{Data}
 use Rattle.nd_json.specs.Forms.{list}
 use Rattle.nd_time.specs.Limits.{max_literals}
@@ -9,8 +9,8 @@ use Rattle.nd_breaks.specs.declared.condition.Literal.{Literal}
 use Rattle.nd_breaks.specs.declared.condition.Literal.TheVariants.{Is, Not}
 use Rattle.nd_breaks.specs.declared.condition.Quantifier.{Quantifier}
 use Rattle.nd_breaks.specs.declared.condition.Quantifier.TheVariants.{All, Any}
-use Rattle.rewind_forms.specs.Forms.{given, after, within, are_few, alone, Either}
-use Rattle.rewind_forms.specs.Atoms.{first_atom_of, atom_of, FirstAtomAsks, AtomAsks}
+use Rattle.rewind_forms.specs.Forms.{given, after, within, are_few, alone}
+use Rattle.rewind_forms.specs.Atoms.{first_atom_of, atom_of}
 use Rattle.rewind_forms.specs.LineFaults.{code_of}
 use Rattle.rewind_forms.specs.Versions.{includes}
 use Rattle.rewind_forms.specs.declared.version.Version.{Version}
@@ -93,20 +93,3 @@ unfoldable pub condition_of : Version → Dataflow → Data → Result Condition
 condition_of v g d =
     if includes v Fourth then combined_of g d
     else after (first_atom_of g d) (λ atom. Ok (of_literal All (Is atom)))
-
--- ---- when reading may run out of memory
-
-unfoldable pub LiteralAsks : Data → Type 0
-LiteralAsks d = Either (alone (codes "not") d) AtomAsks (AtomAsks d)
-
-unfoldable pub SeveralAsk : Data → Type 0
-SeveralAsk d = IsSomeAnd (list d) (λ ds. (are_few max_literals ds ≡ true) × OneOf LiteralAsks ds)
-
-unfoldable pub CombinedAsks : Data → Type 0
-CombinedAsks d =
-    Either (alone (codes "all") d) SeveralAsk
-    (Either (alone (codes "any") d) SeveralAsk
-    (LiteralAsks d))
-
-unfoldable pub ConditionAsks : Version → Data → Type 0
-ConditionAsks v d = ((includes v Fourth ≡ true) × CombinedAsks d) ⊎ ((includes v Fourth ≡ false) × FirstAtomAsks d)

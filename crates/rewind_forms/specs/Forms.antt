@@ -1,7 +1,9 @@
 -- The shapes of a line's values, and of what is read from them.
-use Rattle.std.specs.Prelude.{◌≡◌, ◌≢◌, ℕ, ℤ, Bool, ◌&&◌, List, [], ◌∷◌, length, nat_le, nat_lt, if◌then◌else◌, Option, Some, None, codes, option_map, option_and_then, Result, Ok, Err, ⊤, IsSome, IsSomeAnd}
+use Rattle.std.specs.Prelude.{◌≡◌, ◌≢◌, ℕ, ℤ, Bool, true, ◌&&◌, List, [], ◌∷◌, length, map, nat_le, nat_lt, if◌then◌else◌, Option, Some, None, is_some, codes, option_map, option_and_then, Result, Ok, Err, IfErr}
+use Rattle.std.specs.Option.{unwrap_or}
 use Rattle.serde_json.specs.Data.{Data}
 use Rattle.serde_json.specs.Find.{get}
+use Rattle.serde_json.specs.View.{view}
 use Rattle.nd_json.specs.Forms.{has_keys, text, list, small, integer, text_at, list_at}
 use Rattle.nd_time.specs.Limits.{max_processors}
 use Rattle.nd_graph.specs.Draft.{every}
@@ -30,20 +32,27 @@ within (Some d) read other = read d
 abbrev pub FailsWith : {B : Type 0} → Result B LineFault → LineFault → Type 0
 FailsWith reading e = e ≢ Memory → reading ≡ Err e
 
--- the error is out of memory only if the reading asks for memory
-abbrev pub OnlyIf : Type 0 → LineFault → Type 0
-OnlyIf asks e = e ≡ Memory → asks
+-- if the reading has an error, this is it: out of memory comes only in place of a success
+abbrev pub HidesNoFault : {B : Type 0} → Result B LineFault → LineFault → Type 0
+HidesNoFault reading e = IfErr reading (λ f. f ≡ e)
 
--- a value is found, or memory runs out, only if the reading asks for memory
-abbrev pub FindsIf : {A E : Type 0} → Type 0 → Result (Option A) E → Type 0
-FindsIf asks (Ok None) = ⊤
-FindsIf asks (Ok (Some x)) = asks
-FindsIf asks (Err e) = asks
+-- ---- optional keys
 
--- the value is read in one way, or there is none and it goes on in another
-abbrev pub Either : Option Data → (Data → Type 0) → Type 0 → Type 0
-Either None one other = other
-Either (Some d) one other = one d
+-- what is read of the value, if there is one and it can be read; `Some None` if there is no value
+abbrev pub if_any : {D A : Type 0} → (D → Option A) → Option D → Option (Option A)
+if_any read None = Some None
+if_any read (Some d) = option_map (λ x. Some x) (read d)
+
+-- ---- lists
+
+-- each item can be read
+abbrev pub are_read : {D A : Type 0} → (D → Option A) → List D → Bool
+are_read read [] = true
+are_read read (d ∷ ds) = is_some (read d) && are_read read ds
+
+-- what is read of the items; nothing if one of them cannot be read
+abbrev pub all_read : {D A : Type 0} → (D → Option A) → List D → List A
+all_read read ds = unwrap_or (every read ds) []
 
 -- ---- values
 
@@ -51,6 +60,10 @@ Either (Some d) one other = one d
 abbrev pub numbers_of : List Data → Option (List ℕ)
 numbers_of [] = None
 numbers_of (d ∷ ds) = every small (d ∷ ds)
+
+-- the numbers of the time that a value is
+unfoldable pub time_in : Data → Option (List ℕ)
+time_in d = option_and_then numbers_of (list d)
 
 -- the numbers of the time at the key
 unfoldable pub numbers_at : List ℕ → Data → Option (List ℕ)
@@ -65,7 +78,7 @@ pair_of (a ∷ b ∷ c ∷ ds) = None
 
 -- the name and the numbers that the code read
 abbrev pub name_and_numbers : NamedTime → List ℕ × List ℕ
-name_and_numbers n = (n.name.now, n.numbers.items)
+name_and_numbers n = (n.name.now, all_read small (map view n.numbers.now))
 
 -- a name and the numbers of a time
 unfoldable pub named_time : Data × Data → Option (List ℕ × List ℕ)
@@ -83,10 +96,6 @@ point_at key d = option_and_then point_of (list_at key d)
 unfoldable pub listed_point : Data → Option (List ℕ × List ℕ)
 listed_point d = option_and_then point_of (list d)
 
--- the pointstamps in the list at the key
-unfoldable pub points_at : List ℕ → Data → Option (List (List ℕ × List ℕ))
-points_at key d = option_and_then (every listed_point) (list_at key d)
-
 -- the values in the list at the key
 unfoldable pub values_at : List ℕ → Data → Option (List ℤ)
 values_at key d = option_and_then (every integer) (list_at key d)
@@ -99,23 +108,13 @@ are_few most ds = nat_lt 0 (length ds) && nat_le (length ds) most
 abbrev pub processors_of : List Data → Option (List ℕ)
 processors_of ds = if are_few max_processors ds then every small ds else None
 
--- the processors in the list at the key
-unfoldable pub processors_at : List ℕ → Data → Option (List ℕ)
-processors_at key d = option_and_then processors_of (list_at key d)
+-- the processors that a value lists
+unfoldable pub processors_in : Data → Option (List ℕ)
+processors_in d = option_and_then processors_of (list d)
 
 -- the name at the key, and the numbers of the time at the key "time"
 unfoldable pub named_at : List ℕ → Data → Option (List ℕ × List ℕ)
 named_at key d = option_and_then (λ name. option_map (λ numbers. (name, numbers)) (numbers_at (codes "time") d)) (text_at key d)
-
--- ---- when reading may run out of memory: what reading has found by then, a list or the condition of a breakpoint
-
--- a list is at the key
-unfoldable pub HasList : List ℕ → Data → Type 0
-HasList key d = IsSome (list_at key d)
-
--- a name is at the key, and a list at the key "time"
-unfoldable pub HasNamed : List ℕ → Data → Type 0
-HasNamed key d = IsSomeAnd (text_at key d) (λ name. HasList (codes "time") d)
 
 -- ---- objects
 

@@ -1,12 +1,12 @@
 -- The locations of a graph, by their names, and times there.
-use Rattle.std.specs.Prelude.{ℕ, ◌&&◌, Bool, true, false, List, [], ◌∷◌, length, nat_eq, nat_lt, if◌then◌else◌, slice_get, Option, Some, None, is_some, position, option_map, option_and_then, codes, Result, Ok}
+use Rattle.std.specs.Prelude.{ℕ, false, List, [], ◌∷◌, length, nat_eq, nat_lt, if◌then◌else◌, slice_get, Option, Some, None, position, option_map, option_and_then, codes, Result, Ok}
 use Rattle.std.specs.Option.{option_map_or}
 use Rattle.std.specs.Str.{bytes_eq}
 use Rattle.serde_json.specs.Data.{Data}
 use Rattle.nd_time.specs.Time.{Time}
 use Rattle.nd_graph.specs.Graph.{Dataflow, names, depths}
 use Rattle.nd_paths.specs.declared.point.Pointstamp.{Pointstamp}
-use Rattle.rewind_forms.specs.Forms.{given, named_at}
+use Rattle.rewind_forms.specs.Forms.{given, named_at, listed_point}
 use Rattle.rewind_forms.specs.declared.fault.LineFault.{LineFault}
 use Rattle.rewind_forms.specs.declared.fault.LineFault.TheVariants.{BadShape, UnknownName, BadTime}
 
@@ -32,14 +32,17 @@ time_of g l (epoch ∷ counters) =
 
 -- ---- pointstamps, by a name and the numbers of a time
 
--- each name is that of a location
-abbrev pub are_known : Dataflow → List (List ℕ × List ℕ) → Bool
-are_known g [] = true
-are_known g (p ∷ ps) = is_some (location_named g p.0) && are_known g ps
-
 -- the pointstamp of a location's name and a time's numbers
 unfoldable pub point_named : Dataflow → List ℕ × List ℕ → Option Pointstamp
 point_named g p = option_and_then (λ l. option_map (λ t. record { location = l; time = t }) (time_of g l p.1)) (location_named g p.0)
+
+-- the location that a value names before the numbers of a time
+unfoldable pub listed_location : Dataflow → Data → Option ℕ
+listed_location g d = option_and_then (λ p. location_named g p.0) (listed_point d)
+
+-- the pointstamp of the graph that a value describes
+unfoldable pub placed_point : Dataflow → Data → Option Pointstamp
+placed_point g d = option_and_then (point_named g) (listed_point d)
 
 -- the pointstamp at the location that was found for a name, with the time of these numbers; or the error
 unfoldable pub placed : Dataflow → Option ℕ → List ℕ → Result Pointstamp LineFault

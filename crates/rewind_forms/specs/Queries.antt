@@ -1,16 +1,17 @@
 -- The query that a line asks for. The shapes of its values are tested first, then the names, then the times.
-use Rattle.std.specs.Prelude.{Bool, codes, if◌then◌else◌, Option, Some, Result, Ok, IsSomeAnd, is_some, option_map}
+use Rattle.std.specs.Prelude.{ℕ, Bool, true, false, codes, Option, Some, None, Result, Ok}
+use Rattle.std.specs.Option.{unwrap_or}
 use Rattle.serde_json.specs.Data.{Data}
 use Rattle.serde_json.specs.Find.{get}
-use Rattle.nd_json.specs.Forms.{boolean_at, text_at, small_at, whole_at}
+use Rattle.nd_json.specs.Forms.{boolean_in, whole, text_at, small_at, whole_at}
 use Rattle.nd_graph.specs.Graph.{Dataflow}
+use Rattle.nd_paths.specs.declared.point.Pointstamp.{Pointstamp}
 use Rattle.nd_view.specs.declared.extent.Extent.{Extent}
 use Rattle.nd_view.specs.declared.extent.Extent.TheVariants.{AtOrBefore, StrictlyBefore}
-use Rattle.rewind_forms.specs.Forms.{given, after, point_at, HasList, HasNamed}
+use Rattle.rewind_forms.specs.Forms.{given, after, if_any, point_at}
 use Rattle.rewind_forms.specs.Places.{location_named, time_of, point_there}
-use Rattle.rewind_forms.specs.Atoms.{PassedAsks}
-use Rattle.rewind_forms.specs.Conditions.{condition_of, ConditionAsks}
-use Rattle.rewind_forms.specs.Allowed.{allowed_at, nothing_allowed}
+use Rattle.rewind_forms.specs.Conditions.{condition_of}
+use Rattle.rewind_forms.specs.Allowed.{allowed_in, nothing_allowed}
 use Rattle.rewind_forms.specs.declared.version.Version.{Version}
 use Rattle.rewind_forms.specs.declared.form.QueryForm.{QueryForm}
 use Rattle.rewind_forms.specs.declared.form.QueryForm.TheVariants as form
@@ -54,12 +55,6 @@ search_of v g d =
     after (condition_of v g when) (λ condition.
     Ok (Search (record { when = condition; lo = lo; hi = hi; workers = workers })))))))
 
-unfoldable pub why_of : Dataflow → Data → Result Query LineFault
-why_of g d =
-    given BadShape (small_at (codes "q") d) (λ q.
-    after (point_there g d) (λ point.
-    Ok (Why (record { q = q; point = point; extent = AtOrBefore }))))
-
 unfoldable pub changes_of : Dataflow → Data → Result Query LineFault
 changes_of g d =
     given BadShape (small_at (codes "q") d) (λ q.
@@ -89,44 +84,32 @@ frontier_at_of g d =
     given UnknownName (location_named g name) (λ l.
     Ok (FrontierAt q l))))
 
--- the pointstamps that a question is about
-abbrev pub extent_of : Bool → Extent
-extent_of strictly = if strictly then StrictlyBefore else AtOrBefore
+-- the pointstamps that a question is about: those strictly before, if {"before":true} says so
+abbrev pub extent_of : Option Bool → Extent
+extent_of (Some true) = StrictlyBefore
+extent_of (Some false) = AtOrBefore
+extent_of None = AtOrBefore
 
--- {"before":false} means the same as no such key
-unfoldable pub why_before_of : Dataflow → Data → Result Query LineFault
-why_before_of g d =
+-- the question why at the cursor, or when all that can happen has happened, which takes at most `limit` steps
+abbrev pub why_asked : ℕ → Pointstamp → Extent → Option ℕ → Query
+why_asked q point extent None = Why (record { q = q; point = point; extent = extent })
+why_asked q point extent (Some limit) = WhyAtRest (record { asked = record { q = q; point = point; extent = extent }; limit = limit })
+
+unfoldable pub why_of : Dataflow → Data → Result Query LineFault
+why_of g d =
     given BadShape (small_at (codes "q") d) (λ q.
-    given BadShape (boolean_at (codes "before") d) (λ strictly.
+    given BadShape (if_any boolean_in (get (codes "before") d)) (λ strictly.
+    given BadShape (if_any whole (get (codes "rest") d)) (λ limit.
     after (point_there g d) (λ point.
-    Ok (Why (record { q = q; point = point; extent = extent_of strictly })))))
+    Ok (why_asked q point (extent_of strictly) limit)))))
 
 unfoldable pub reach_of : Version → Dataflow → Data → Result Query LineFault
 reach_of v g d =
     given BadShape (whole_at (codes "limit") d) (λ limit.
     given BadShape (get (codes "when") d) (λ when.
+    given BadShape (if_any allowed_in (get (codes "with") d)) (λ allowed.
     after (condition_of v g when) (λ condition.
-    Ok (Reach (record { when = condition; limit = limit; allowed = nothing_allowed })))))
-
-unfoldable pub reach_with_of : Version → Dataflow → Data → Result Query LineFault
-reach_with_of v g d =
-    given BadShape (whole_at (codes "limit") d) (λ limit.
-    given BadShape (get (codes "when") d) (λ when.
-    given BadShape (allowed_at (codes "with") d) (λ allowed.
-    after (condition_of v g when) (λ condition.
-    Ok (Reach (record { when = condition; limit = limit; allowed = allowed }))))))
-
--- the same; without the key "before" it is about those at or before
-unfoldable pub extent_there : Data → Option Extent
-extent_there d = if is_some (get (codes "before") d) then option_map extent_of (boolean_at (codes "before") d) else Some AtOrBefore
-
-unfoldable pub why_at_rest_of : Dataflow → Data → Result Query LineFault
-why_at_rest_of g d =
-    given BadShape (small_at (codes "q") d) (λ q.
-    given BadShape (extent_there d) (λ extent.
-    given BadShape (whole_at (codes "rest") d) (λ limit.
-    after (point_there g d) (λ point.
-    Ok (WhyAtRest (record { asked = record { q = q; point = point; extent = extent }; limit = limit }))))))
+    Ok (Reach (record { when = condition; limit = limit; allowed = unwrap_or allowed nothing_allowed }))))))
 
 -- the query of a form
 abbrev pub query_of : Version → Dataflow → QueryForm → Data → Result Query LineFault
@@ -145,43 +128,4 @@ query_of v g form.Candidates d = Ok Candidates
 query_of v g form.Effect d = effect_of d
 query_of v g form.Turns d = turns_of v g d
 query_of v g form.FrontierAt d = frontier_at_of g d
-query_of v g form.WhyBefore d = why_before_of g d
 query_of v g form.Reach d = reach_of v g d
-query_of v g form.ReachWith d = reach_with_of v g d
-query_of v g form.WhyAtRest d = why_at_rest_of g d
-
--- ---- when reading may run out of memory
-
--- the condition of a search, of turns, or of what can still happen
-abbrev pub WhenAsks : Version → Data → Type 0
-WhenAsks v d = IsSomeAnd (get (codes "when") d) (ConditionAsks v)
-
--- {"at":name,"before":bool,"time":t,"why":q}
-unfoldable pub WhyBeforeAsks : Data → Type 0
-WhyBeforeAsks d = IsSomeAnd (boolean_at (codes "before") d) (λ strictly. PassedAsks d)
-
--- {"at":name,"rest":n,"time":t,"why":q}, with "before":bool or without
-unfoldable pub WhyAtRestAsks : Data → Type 0
-WhyAtRestAsks d = IsSomeAnd (extent_there d) (λ extent. IsSomeAnd (whole_at (codes "rest") d) (λ limit. PassedAsks d))
-
--- {"at":name,"changes":q,"hi":n,"lo":n,"time":t}
-unfoldable pub ChangesAsks : Data → Type 0
-ChangesAsks d = IsSomeAnd (whole_at (codes "lo") d) (λ lo. IsSomeAnd (whole_at (codes "hi") d) (λ hi. PassedAsks d))
-
-abbrev pub QueryAsks : Version → QueryForm → Data → Type 0
-QueryAsks v form.Count d = HasNamed (codes "at") d
-QueryAsks v form.Before d = HasList (codes "from") d
-QueryAsks v form.Passed d = PassedAsks d
-QueryAsks v form.Why d = PassedAsks d
-QueryAsks v form.WhyBefore d = WhyBeforeAsks d
-QueryAsks v form.WhyAtRest d = WhyAtRestAsks d
-QueryAsks v form.Changes d = ChangesAsks d
-QueryAsks v form.Search d =
-    IsSomeAnd (whole_at (codes "lo") d) (λ lo.
-    IsSomeAnd (whole_at (codes "hi") d) (λ hi.
-    IsSomeAnd (whole_at (codes "workers") d) (λ workers. WhenAsks v d)))
-QueryAsks v form.Turns d = IsSomeAnd (whole_at (codes "lo") d) (λ lo. IsSomeAnd (whole_at (codes "hi") d) (λ hi. WhenAsks v d))
-QueryAsks v form.Reach d = IsSomeAnd (whole_at (codes "limit") d) (λ limit. WhenAsks v d)
-QueryAsks v form.ReachWith d =
-    IsSomeAnd (whole_at (codes "limit") d) (λ limit. IsSomeAnd (allowed_at (codes "with") d) (λ allowed. WhenAsks v d))
-QueryAsks v other d = ⊥

@@ -1,18 +1,20 @@
 -- The step that a line asks for. The shapes of its values are tested first, then the names, then the times.
-use Rattle.std.specs.Prelude.{ℕ, Bool, false, if◌then◌else◌, Option, Some, None, option_map, option_and_then, codes, Result, Ok, Err, IsSomeAnd}
+use Rattle.std.specs.Prelude.{ℕ, Bool, false, List, if◌then◌else◌, Option, Some, None, option_map, option_and_then, codes, Result, Ok, Err}
 use Rattle.std.specs.declared.alloc.Global.{Global}
+use Rattle.std.specs.Option.{unwrap_or}
 use Rattle.serde_json.specs.Data.{Data}
 use Rattle.serde_json.specs.Find.{get}
-use Rattle.nd_json.specs.Forms.{small, has_text, text_at, small_at, integer_at, boolean_at}
+use Rattle.nd_json.specs.Forms.{small, has_text, boolean_in, text_at, small_at, integer_at, list_at}
+use Rattle.nd_time.specs.Time.{Time}
 use Rattle.nd_graph.specs.Graph.{Dataflow}
 use Rattle.nd_protocol.specs.declared.step.Step.{Step}
 use Rattle.nd_protocol.specs.declared.step.Step.TheVariants.{Feed, Take, Notice, Release, Broadcast, Receive}
+use Rattle.nd_protocol.specs.declared.times.Later.{Later}
 use Rattle.nd_protocol.specs.declared.part.Part.TheVariants.{All, Points}
 use Rattle.nd_protocol.specs.declared.step.Next.{Next as Afterwards}
 use Rattle.nd_protocol.specs.declared.step.Next.TheVariants as token
-use Rattle.nd_graph.specs.Draft.{every}
-use Rattle.rewind_forms.specs.Forms.{given, after, numbers_at, named_at, points_at, values_at, alone, HasList, HasNamed}
-use Rattle.rewind_forms.specs.Places.{vertex_named, edge_named, time_of, placed, are_known, point_named}
+use Rattle.rewind_forms.specs.Forms.{given, after, if_any, are_read, all_read, time_in, named_at, listed_point, values_at, alone}
+use Rattle.rewind_forms.specs.Places.{vertex_named, edge_named, time_of, placed, listed_location, placed_point}
 use Rattle.rewind_forms.specs.Sends.{send_of}
 use Rattle.rewind_forms.specs.Grammar.{form_of}
 use Rattle.rewind_forms.specs.Versions.{includes}
@@ -61,40 +63,38 @@ notice_of g d =
     after (placed g (vertex_named g named.0) named.1) (λ point.
     Ok (Notice p point.location point.time))))
 
--- the release of a capability
+-- the time at which a capability is held later, if there is one, and whether it is kept beside it
+abbrev pub later_of : Option Time → Option Bool → Option Later
+later_of time keep = option_map (λ t. record { time = t; keep = unwrap_or keep false }) time
+
+-- the release of a capability, which is dropped, or moves to the time at the key "to", or is kept beside one there; both times are of
+-- the vertex
 unfoldable pub release_of : Dataflow → Data → Result (Step Global) LineFault
 release_of g d =
     given BadShape (small_at (codes "p") d) (λ p.
     given BadShape (named_at (codes "vertex") d) (λ named.
-    after (placed g (vertex_named g named.0) named.1) (λ point.
-    Ok (Release p point.location (record { time = point.time; to = None })))))
-
--- the release that moves a capability to a later time, or keeps it beside one there; both times are of the vertex
-unfoldable pub move_of : Dataflow → Bool → Data → Result (Step Global) LineFault
-move_of g keep d =
-    given BadShape (small_at (codes "p") d) (λ p.
-    given BadShape (named_at (codes "vertex") d) (λ named.
-    given BadShape (numbers_at (codes "to") d) (λ later.
+    given BadShape (if_any time_in (get (codes "to") d)) (λ numbers.
+    given BadShape (if_any boolean_in (get (codes "keep") d)) (λ keep.
     given UnknownName (vertex_named g named.0) (λ vertex.
     given BadTime (time_of g vertex named.1) (λ time.
-    given BadTime (time_of g vertex later) (λ to.
-    Ok (Release p vertex (record { time = time; to = Some (record { time = to; keep = keep }) }))))))))
-
--- the same, if it says whether the capability is kept
-unfoldable pub keep_of : Dataflow → Data → Result (Step Global) LineFault
-keep_of g d = given BadShape (boolean_at (codes "keep") d) (λ keep. move_of g keep d)
+    given BadTime (if_any (time_of g vertex) numbers) (λ later.
+    Ok (Release p vertex (record { time = time; to = later_of later keep })))))))))
 
 -- the broadcast of all that is unsent
 unfoldable pub broadcast_of : Data → Result (Step Global) LineFault
 broadcast_of d = given BadShape (small_at (codes "p") d) (λ p. Ok (Broadcast p All))
 
--- the broadcast of a part; all names are looked up before all times
+-- the broadcast of the part that a list describes: first the shapes of all items are tested, then all names, then all times
+abbrev pub part_in : Dataflow → ℕ → List Data → Result (Step Global) LineFault
+part_in g p ds =
+    if are_read listed_point ds then (
+    if are_read (listed_location g) ds then (
+    if are_read (placed_point g) ds then Ok (Broadcast p (Points (all_read (placed_point g) ds)))
+    else Err BadTime) else Err UnknownName) else Err BadShape
+
+-- the broadcast of a part
 unfoldable pub part_of : Dataflow → Data → Result (Step Global) LineFault
-part_of g d =
-    given BadShape (small_at (codes "p") d) (λ p.
-    given BadShape (points_at (codes "part") d) (λ named.
-    if are_known g named then given BadTime (every (point_named g) named) (λ points. Ok (Broadcast p (Points points)))
-    else Err UnknownName))
+part_of g d = given BadShape (small_at (codes "p") d) (λ p. given BadShape (list_at (codes "part") d) (part_in g p))
 
 unfoldable pub receive_of : Data → Result (Step Global) LineFault
 receive_of d =
@@ -108,8 +108,6 @@ step_of v g form.Feed d = feed_of v g d
 step_of v g form.Take d = take_of g d
 step_of v g form.Notice d = notice_of g d
 step_of v g form.Release d = release_of g d
-step_of v g form.Move d = move_of g false d
-step_of v g form.Keep d = keep_of g d
 step_of v g form.Send d = send_of g d
 step_of v g form.Broadcast d = broadcast_of d
 step_of v g form.Part d = part_of g d
@@ -124,23 +122,3 @@ read_as g d (line.Query form) = Err BadShape
 -- the step that a value describes in a script of version 6, or the error
 unfoldable pub read_of : Dataflow → Data → Result (Step Global) LineFault
 read_of g d = given BadShape (form_of Sixth d) (read_as g d)
-
--- ---- when reading may run out of memory
-
-abbrev pub StepAsks : StepForm → Data → Type 0
-StepAsks form.Feed d = IsSomeAnd (small_at (codes "p") d) (λ p. IsSomeAnd (text_at (codes "vertex") d) (λ name. HasList (codes "values") d))
-StepAsks form.Take d = IsSomeAnd (small_at (codes "p") d) (λ p. IsSomeAnd (integer_at (codes "value") d) (λ value. HasNamed (codes "edge") d))
-StepAsks form.Keep d = IsSomeAnd (boolean_at (codes "keep") d) (λ keep. IsSomeAnd (small_at (codes "p") d) (λ p. HasNamed (codes "vertex") d))
-StepAsks form.Part d = IsSomeAnd (small_at (codes "p") d) (λ p. HasList (codes "part") d)
-StepAsks form.Broadcast d = ⊥
-StepAsks form.Receive d = ⊥
-StepAsks other d = IsSomeAnd (small_at (codes "p") d) (λ p. HasNamed (codes "vertex") d)
-
--- the line is a step that asks for memory
-abbrev pub IsStepThatAsks : Data → Form → Type 0
-IsStepThatAsks d (line.Step form) = StepAsks form d
-IsStepThatAsks d other = ⊥
-
--- reading the object of a step asks for memory
-unfoldable pub ObjectAsks : Data → Type 0
-ObjectAsks d = IsSomeAnd (form_of Sixth d) (IsStepThatAsks d)

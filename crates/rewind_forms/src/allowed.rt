@@ -1,10 +1,10 @@
 //! The words that let users feed or release among the moves.
 ghost use Rattle.std.specs.Prelude.{◌≡◌, map};
 ghost use Rattle.serde_json.specs.View.{view};
-ghost use Rattle.rewind_forms.specs.Allowed.{allowed_at as allowed_in, allowed_of as allowed_from, nothing_allowed, with_word as with_word_of, with_item as with_item_of};
+ghost use Rattle.rewind_forms.specs.Allowed.{allowed_of as allowed_from, nothing_allowed, with_word as with_word_of, with_item as with_item_of};
 
 use nd_cluster::Allowed;
-use nd_json::{list_at, text};
+use nd_json::text;
 use serde_json::Value;
 
 // No word.
@@ -39,7 +39,7 @@ fn with_item(old: Allowed, item: &Value) -> Option<Allowed>
 }
 
 // Returns one word, or two that differ.
-fn allowed_of(items: &[Value]) -> Option<Allowed>
+pub(crate) fn allowed_of(items: &[Value]) -> Option<Allowed>
     ensures { result ≡ allowed_from (map view items.now) }
 {
     match items {
@@ -47,13 +47,4 @@ fn allowed_of(items: &[Value]) -> Option<Allowed>
         [first, second] => with_item(with_item(NOTHING, first)?, second),
         _ => None,
     }
-}
-
-// Returns the words in the list at the key.
-#[tactic(auto, unfolding(crate::specs::Allowed::allowed_at))]
-pub(crate) fn allowed_at(value: &Value, key: &str) -> Option<Allowed>
-    ensures { result ≡ allowed_in key.now (view value.now) }
-{
-    let items = list_at(value, key)?;
-    allowed_of(items)
 }

@@ -1,8 +1,8 @@
 //! What a line's JSON value asks for.
 ghost use Rattle.std.specs.Prelude.{◌≡◌, Ok, IfOk, IfErr};
 ghost use Rattle.serde_json.specs.View.{view};
-ghost use Rattle.rewind_forms.specs.Forms.{FailsWith, OnlyIf};
-ghost use Rattle.rewind_forms.specs.Asked.{asked_of as asked_in, LineAsks};
+ghost use Rattle.rewind_forms.specs.Forms.{FailsWith, HidesNoFault};
+ghost use Rattle.rewind_forms.specs.Asked.{asked_of as asked_in};
 
 use crate::commands::command_of;
 use crate::queries::query_of;
@@ -24,8 +24,8 @@ pub enum Asked {
 
 /// Returns what the value asks for in a script of this version, for the graph.
 ///
-/// Returns `Memory` only if the allocation of a list of the line failed.
-#[tactic(auto, unfolding(crate::specs::Asked::asked_of, crate::specs::Asked::LineAsks))]
+/// Returns `Memory` only in place of a command.
+#[tactic(auto, unfolding(crate::specs::Asked::asked_of))]
 pub fn asked_of(
     alloc: Global,
     version: Version,
@@ -34,7 +34,7 @@ pub fn asked_of(
 ) -> Result<Asked, LineFault>
     ensures ok { IfOk result (λ c. asked_in version graph.now (view value.now) ≡ Ok c) }
     ensures err { IfErr result (FailsWith (asked_in version graph.now (view value.now))) }
-    ensures memory { IfErr result (OnlyIf (LineAsks version graph.now (view value.now))) }
+    ensures memory { IfErr result (HidesNoFault (asked_in version graph.now (view value.now))) }
 {
     match Form::of(version, value).ok_or(LineFault::BadShape)? {
         Form::Step(form) => {
@@ -46,7 +46,7 @@ pub fn asked_of(
             Ok(Asked::Do(command))
         }
         Form::Query(form) => {
-            let query = query_of(alloc, version, graph, form, value)?;
+            let query = query_of(version, graph, form, value)?;
             Ok(Asked::Look(query))
         }
     }

@@ -1,8 +1,7 @@
 //! What one atom of a condition says.
-ghost use Rattle.std.specs.Prelude.{◌≡◌, Ok, IfOk, IfErr, codes};
+ghost use Rattle.std.specs.Prelude.{◌≡◌};
 ghost use Rattle.serde_json.specs.View.{view};
-ghost use Rattle.rewind_forms.specs.Forms.{FailsWith, OnlyIf, HasNamed};
-ghost use Rattle.rewind_forms.specs.Atoms.{passed_of as passed_in, count_of as count_in, queue_of as queue_in, sink_of as sink_in, first_atom_of as first_in, finished_of as finished_in, view_of as view_in, atom_of as atom_in, AtomAsks, CountAsks, FirstAtomAsks, PassedAsks, ViewAsks};
+ghost use Rattle.rewind_forms.specs.Atoms.{passed_of as passed_in, count_of as count_in, queue_of as queue_in, sink_of as sink_in, first_atom_of as first_in, finished_of as finished_in, view_of as view_in, atom_of as atom_in};
 
 use crate::LineFault;
 use crate::places::vertex_named;
@@ -12,27 +11,22 @@ use nd_breaks::Atom;
 use nd_graph::Graph;
 use nd_json::{integer_at, small_at, text_at, whole_at};
 use serde_json::Value;
-use std::alloc::Global;
 
 #[tactic(auto, unfolding(crate::specs::Atoms::passed_of))]
-fn passed_of(alloc: Global, graph: &Graph, value: &Value) -> Result<Atom, LineFault>
-    ensures ok { IfOk result (λ c. passed_in graph.now (view value.now) ≡ Ok c) }
-    ensures err { IfErr result (FailsWith (passed_in graph.now (view value.now))) }
-    ensures memory { IfErr result (OnlyIf (PassedAsks (view value.now))) }
+fn passed_of(graph: &Graph, value: &Value) -> Result<Atom, LineFault>
+    ensures { result ≡ passed_in graph.now (view value.now) }
 {
     let q = small_at(value, "q").ok_or(LineFault::BadShape)?;
-    let point = point_there(alloc, graph, value)?;
+    let point = point_there(graph, value)?;
     Ok(Atom::Passed { q, point })
 }
 
-#[tactic(auto, unfolding(crate::specs::Atoms::count_of, crate::specs::Atoms::CountAsks))]
-fn count_of(alloc: Global, graph: &Graph, value: &Value) -> Result<Atom, LineFault>
-    ensures ok { IfOk result (λ c. count_in graph.now (view value.now) ≡ Ok c) }
-    ensures err { IfErr result (FailsWith (count_in graph.now (view value.now))) }
-    ensures memory { IfErr result (OnlyIf (CountAsks (view value.now))) }
+#[tactic(auto, unfolding(crate::specs::Atoms::count_of))]
+fn count_of(graph: &Graph, value: &Value) -> Result<Atom, LineFault>
+    ensures { result ≡ count_in graph.now (view value.now) }
 {
     let at_least = whole_at(value, "at_least").ok_or(LineFault::BadShape)?;
-    let point = point_there(alloc, graph, value)?;
+    let point = point_there(graph, value)?;
     Ok(Atom::Count { point, at_least })
 }
 
@@ -60,38 +54,32 @@ fn sink_of(graph: &Graph, value: &Value) -> Result<Atom, LineFault>
 }
 
 #[tactic(auto, unfolding(crate::specs::Atoms::finished_of))]
-fn finished_of(alloc: Global, graph: &Graph, value: &Value) -> Result<Atom, LineFault>
-    ensures ok { IfOk result (λ c. finished_in graph.now (view value.now) ≡ Ok c) }
-    ensures err { IfErr result (FailsWith (finished_in graph.now (view value.now))) }
-    ensures memory { IfErr result (OnlyIf (HasNamed (codes "at") (view value.now))) }
+fn finished_of(graph: &Graph, value: &Value) -> Result<Atom, LineFault>
+    ensures { result ≡ finished_in graph.now (view value.now) }
 {
-    let point = point_there(alloc, graph, value)?;
+    let point = point_there(graph, value)?;
     Ok(Atom::Finished { point })
 }
 
-#[tactic(auto, unfolding(crate::specs::Atoms::view_of, crate::specs::Atoms::ViewAsks))]
-fn view_of(alloc: Global, graph: &Graph, value: &Value) -> Result<Atom, LineFault>
-    ensures ok { IfOk result (λ c. view_in graph.now (view value.now) ≡ Ok c) }
-    ensures err { IfErr result (FailsWith (view_in graph.now (view value.now))) }
-    ensures memory { IfErr result (OnlyIf (ViewAsks (view value.now))) }
+#[tactic(auto, unfolding(crate::specs::Atoms::view_of))]
+fn view_of(graph: &Graph, value: &Value) -> Result<Atom, LineFault>
+    ensures { result ≡ view_in graph.now (view value.now) }
 {
     let at_least = integer_at(value, "at_least").ok_or(LineFault::BadShape)?;
     let q = small_at(value, "q").ok_or(LineFault::BadShape)?;
-    let point = point_there(alloc, graph, value)?;
+    let point = point_there(graph, value)?;
     Ok(Atom::View { q, point, at_least })
 }
 
 /// Reads the atom that the value describes, for the graph; only the kinds that every version has.
-#[tactic(auto, unfolding(crate::specs::Atoms::first_atom_of, crate::specs::Atoms::FirstAtomAsks))]
-pub fn first_atom_of(alloc: Global, graph: &Graph, value: &Value) -> Result<Atom, LineFault>
-    ensures ok { IfOk result (λ c. first_in graph.now (view value.now) ≡ Ok c) }
-    ensures err { IfErr result (FailsWith (first_in graph.now (view value.now))) }
-    ensures memory { IfErr result (OnlyIf (FirstAtomAsks (view value.now))) }
+#[tactic(auto, unfolding(crate::specs::Atoms::first_atom_of))]
+pub fn first_atom_of(graph: &Graph, value: &Value) -> Result<Atom, LineFault>
+    ensures { result ≡ first_in graph.now (view value.now) }
 {
     if let Some(shown) = inner(value, "passed", &["at", "q", "time"]) {
-        passed_of(alloc, graph, shown)
+        passed_of(graph, shown)
     } else if let Some(shown) = inner(value, "count", &["at", "at_least", "time"]) {
-        count_of(alloc, graph, shown)
+        count_of(graph, shown)
     } else if let Some(shown) = inner(value, "queue", &["at_least", "from", "to"]) {
         queue_of(shown)
     } else if let Some(shown) = inner(value, "sink", &["at_least", "value", "vertex"]) {
@@ -102,17 +90,15 @@ pub fn first_atom_of(alloc: Global, graph: &Graph, value: &Value) -> Result<Atom
 }
 
 /// Reads the atom that the value describes, of any kind, for the graph.
-#[tactic(auto, unfolding(crate::specs::Atoms::atom_of, crate::specs::Atoms::AtomAsks))]
-pub fn atom_of(alloc: Global, graph: &Graph, value: &Value) -> Result<Atom, LineFault>
-    ensures ok { IfOk result (λ c. atom_in graph.now (view value.now) ≡ Ok c) }
-    ensures err { IfErr result (FailsWith (atom_in graph.now (view value.now))) }
-    ensures memory { IfErr result (OnlyIf (AtomAsks (view value.now))) }
+#[tactic(auto, unfolding(crate::specs::Atoms::atom_of))]
+pub fn atom_of(graph: &Graph, value: &Value) -> Result<Atom, LineFault>
+    ensures { result ≡ atom_in graph.now (view value.now) }
 {
     if let Some(shown) = inner(value, "finished", &["at", "time"]) {
-        finished_of(alloc, graph, shown)
+        finished_of(graph, shown)
     } else if let Some(shown) = inner(value, "view", &["at", "at_least", "q", "time"]) {
-        view_of(alloc, graph, shown)
+        view_of(graph, shown)
     } else {
-        first_atom_of(alloc, graph, value)
+        first_atom_of(graph, value)
     }
 }

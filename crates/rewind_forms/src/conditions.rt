@@ -1,9 +1,8 @@
 //! The condition that a line names.
-ghost use Rattle.std.specs.Prelude.{◌≡◌, ◌<◌, ◌≤◌, Ok, IfOk, IfErr, map, length, Any};
+ghost use Rattle.std.specs.Prelude.{◌≡◌, ◌<◌, ◌≤◌, Err, IfOk, IfErr, map, length};
 ghost use Rattle.serde_json.specs.View.{view};
 ghost use Rattle.nd_time.specs.Limits.{max_literals};
-ghost use Rattle.rewind_forms.specs.Forms.{FailsWith, OnlyIf};
-ghost use Rattle.rewind_forms.specs.Conditions.{literal_of as literal_in, lesser as lesser_in, literals_of as literals_in, several_of as several_in, combined_of as combined_in, condition_of as condition_in, CombinedAsks, ConditionAsks, LiteralAsks, SeveralAsk};
+ghost use Rattle.rewind_forms.specs.Conditions.{literal_of as literal_in, lesser as lesser_in, literals_of as literals_in, several_of as several_in, combined_of as combined_in, condition_of as condition_in};
 ghost use Rattle.rewind_forms.specs.Conditions.{literals_read, with_literal, with_fault, HasRoom, IsOf, MakeUp};
 
 use crate::atoms::{atom_of, first_atom_of};
@@ -14,20 +13,17 @@ use nd_graph::Graph;
 use nd_json::list;
 use nd_time::limits::MAX_LITERALS;
 use serde_json::Value;
-use std::alloc::Global;
 
 // Returns the literal that the value describes.
-#[tactic(auto, unfolding(crate::specs::Conditions::literal_of, crate::specs::Conditions::LiteralAsks))]
-fn literal_of(alloc: Global, graph: &Graph, value: &Value) -> Result<Literal, LineFault>
-    ensures ok { IfOk result (λ c. literal_in graph.now (view value.now) ≡ Ok c) }
-    ensures err { IfErr result (FailsWith (literal_in graph.now (view value.now))) }
-    ensures memory { IfErr result (OnlyIf (LiteralAsks (view value.now))) }
+#[tactic(auto, unfolding(crate::specs::Conditions::literal_of))]
+fn literal_of(graph: &Graph, value: &Value) -> Result<Literal, LineFault>
+    ensures { result ≡ literal_in graph.now (view value.now) }
 {
     if let Some(shown) = alone(value, "not") {
-        let atom = atom_of(alloc, graph, shown)?;
+        let atom = atom_of(graph, shown)?;
         Ok(Literal::Not(atom))
     } else {
-        let atom = atom_of(alloc, graph, value)?;
+        let atom = atom_of(graph, value)?;
         Ok(Literal::Is(atom))
     }
 }
@@ -75,7 +71,6 @@ fn and_fault(read: &Read, fault: LineFault) -> LineFault
 
 // Reads the literals that the items describe, all or any of which must hold.
 fn literals_of(
-    alloc: Global,
     graph: &Graph,
     quantifier: Quantifier,
     items: &[Value],
@@ -83,14 +78,12 @@ fn literals_of(
     requires some { 0 < length items.now }
     requires few { length items.now ≤ max_literals }
     ensures ok { IfOk result (MakeUp quantifier (literals_in graph.now (map view items.now))) }
-    ensures err { IfErr result (FailsWith (literals_in graph.now (map view items.now))) }
-    ensures memory { IfErr result (OnlyIf (Any LiteralAsks (map view items.now))) }
+    ensures err { IfErr result (λ e. literals_in graph.now (map view items.now) ≡ Err e) }
 {
     let mut read: Read = Ok(None);
     for item in items {
-        read = match literal_of(alloc, graph, item) {
+        read = match literal_of(graph, item) {
             Ok(literal) => and_literal(read, quantifier, literal),
-            Err(LineFault::Memory) => return Err(LineFault::Memory),
             Err(fault) => Err(and_fault(&read, fault)),
         };
     }
@@ -101,59 +94,42 @@ fn literals_of(
 }
 
 // Returns the condition of all or any of the literals in the list.
-#[tactic(auto, unfolding(crate::specs::Conditions::several_of, crate::specs::Conditions::SeveralAsk))]
-fn several_of(
-    alloc: Global,
-    graph: &Graph,
-    quantifier: Quantifier,
-    value: &Value,
-) -> Result<Condition, LineFault>
-    ensures ok { IfOk result (λ c. several_in graph.now quantifier (view value.now) ≡ Ok c) }
-    ensures err { IfErr result (FailsWith (several_in graph.now quantifier (view value.now))) }
-    ensures memory { IfErr result (OnlyIf (SeveralAsk (view value.now))) }
+#[tactic(auto, unfolding(crate::specs::Conditions::several_of))]
+fn several_of(graph: &Graph, quantifier: Quantifier, value: &Value) -> Result<Condition, LineFault>
+    ensures { result ≡ several_in graph.now quantifier (view value.now) }
 {
     let items = list(value).ok_or(LineFault::BadShape)?;
     if items.is_empty() || items.len() > MAX_LITERALS {
         return Err(LineFault::BadShape);
     }
-    literals_of(alloc, graph, quantifier, items)
+    literals_of(graph, quantifier, items)
 }
 
 // Returns the condition that the value describes: a literal, or all or any of several.
-#[tactic(auto, unfolding(crate::specs::Conditions::combined_of, crate::specs::Conditions::CombinedAsks))]
-fn combined_of(alloc: Global, graph: &Graph, value: &Value) -> Result<Condition, LineFault>
-    ensures ok { IfOk result (λ c. combined_in graph.now (view value.now) ≡ Ok c) }
-    ensures err { IfErr result (FailsWith (combined_in graph.now (view value.now))) }
-    ensures memory { IfErr result (OnlyIf (CombinedAsks (view value.now))) }
+#[tactic(auto, unfolding(crate::specs::Conditions::combined_of))]
+fn combined_of(graph: &Graph, value: &Value) -> Result<Condition, LineFault>
+    ensures { result ≡ combined_in graph.now (view value.now) }
 {
     if let Some(shown) = alone(value, "all") {
-        several_of(alloc, graph, Quantifier::All, shown)
+        several_of(graph, Quantifier::All, shown)
     } else if let Some(shown) = alone(value, "any") {
-        several_of(alloc, graph, Quantifier::Any, shown)
+        several_of(graph, Quantifier::Any, shown)
     } else {
-        let literal = literal_of(alloc, graph, value)?;
+        let literal = literal_of(graph, value)?;
         Ok(Condition::new(Quantifier::All, literal))
     }
 }
 
 /// Reads the condition that the value describes in a script of this version, for the graph.
 ///
-/// `BadShape` comes before `UnknownName`, and `UnknownName` before `BadTime`, whichever literals they are in. Returns
-/// `Memory` only if the allocation of a list of the condition failed.
-#[tactic(auto, unfolding(crate::specs::Conditions::condition_of, crate::specs::Conditions::ConditionAsks))]
-pub fn condition_of(
-    alloc: Global,
-    version: Version,
-    graph: &Graph,
-    value: &Value,
-) -> Result<Condition, LineFault>
-    ensures ok { IfOk result (λ c. condition_in version graph.now (view value.now) ≡ Ok c) }
-    ensures err { IfErr result (FailsWith (condition_in version graph.now (view value.now))) }
-    ensures memory { IfErr result (OnlyIf (ConditionAsks version (view value.now))) }
+/// `BadShape` comes before `UnknownName`, and `UnknownName` before `BadTime`, whichever literals they are in.
+#[tactic(auto, unfolding(crate::specs::Conditions::condition_of))]
+pub fn condition_of(version: Version, graph: &Graph, value: &Value) -> Result<Condition, LineFault>
+    ensures { result ≡ condition_in version graph.now (view value.now) }
 {
     if version.includes(Version::Fourth) {
-        return combined_of(alloc, graph, value);
+        return combined_of(graph, value);
     }
-    let atom = first_atom_of(alloc, graph, value)?;
+    let atom = first_atom_of(graph, value)?;
     Ok(Condition::new(Quantifier::All, Literal::Is(atom)))
 }

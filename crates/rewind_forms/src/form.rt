@@ -21,12 +21,7 @@ pub enum StepForm {
     Feed,
     Take,
     Notice,
-    /// A release that drops a capability.
     Release,
-    /// A release that moves a capability to a later time.
-    Move,
-    /// The same with the key `keep`, which says whether the capability is kept along with the later one.
-    Keep,
     Send,
     /// A broadcast of all that is unsent.
     Broadcast,
@@ -42,12 +37,6 @@ pub enum CommandForm {
     Redo,
     Jump,
     Run,
-    /// A run of some processors.
-    RunOnly,
-    /// A run that chooses by a seed.
-    RunBySeed,
-    /// A run of some processors that chooses by a seed.
-    RunOnlyBySeed,
     Break,
     Unbreak,
 }
@@ -71,15 +60,7 @@ pub enum QueryForm {
     Turns,
     /// The frontier at a location.
     FrontierAt,
-    /// Why a processor does not consider everything strictly before a pointstamp finished, if the
-    /// key `before` is true.
-    WhyBefore,
     Reach,
-    /// The same with the key `with`, which lets users feed or release.
-    ReachWith,
-    /// Why a processor does not consider something finished when all that can happen has happened, with the key `before` or
-    /// without.
-    WhyAtRest,
 }
 
 impl Form {
@@ -136,10 +117,10 @@ fn step_form(word: &str, value: &Value) -> Option<(Version, StepForm)>
         )),
         "release" if has_keys(value, &["do", "p", "time", "to", "vertex"]) => Some((
             Fifth,
-            StepForm::Move,
+            StepForm::Release,
         )),
         "release" if has_keys(value, &["do", "keep", "p", "time", "to", "vertex"]) => {
-            Some((Sixth, StepForm::Keep))
+            Some((Sixth, StepForm::Release))
         }
         "send" if has_keys(value, &["do", "p", "port", "time", "values", "vertex"]) => {
             Some((Sixth, StepForm::Send))
@@ -175,13 +156,10 @@ fn command_form(word: &str, value: &Value) -> Option<(Version, CommandForm)>
         "redo" if has_keys(value, &["do"]) => Some((First, CommandForm::Redo)),
         "jump" if has_keys(value, &["do", "to"]) => Some((First, CommandForm::Jump)),
         "run" if has_keys(value, &["do", "limit"]) => Some((First, CommandForm::Run)),
-        "run" if has_keys(value, &["do", "limit", "only"]) => Some((Fifth, CommandForm::RunOnly)),
-        "run" if has_keys(value, &["do", "limit", "seed"]) => Some((
-            Seventh,
-            CommandForm::RunBySeed,
-        )),
+        "run" if has_keys(value, &["do", "limit", "only"]) => Some((Fifth, CommandForm::Run)),
+        "run" if has_keys(value, &["do", "limit", "seed"]) => Some((Seventh, CommandForm::Run)),
         "run" if has_keys(value, &["do", "limit", "only", "seed"]) => {
-            Some((Seventh, CommandForm::RunOnlyBySeed))
+            Some((Seventh, CommandForm::Run))
         }
         "break" if has_keys(value, &["do", "when"]) => Some((First, CommandForm::Break)),
         "unbreak" if has_keys(value, &["do", "id"]) => Some((First, CommandForm::Unbreak)),
@@ -214,17 +192,17 @@ fn query_form(word: &str, value: &Value) -> Option<(Version, QueryForm)>
         "turns" if has_keys(value, &["do", "hi", "lo", "when"]) => Some((Fourth, QueryForm::Turns)),
         "frontier" if has_keys(value, &["at", "do", "q"]) => Some((Fourth, QueryForm::FrontierAt)),
         "why" if has_keys(value, &["at", "before", "do", "q", "time"]) => {
-            Some((Fourth, QueryForm::WhyBefore))
+            Some((Fourth, QueryForm::Why))
         }
         "reach" if has_keys(value, &["do", "limit", "when"]) => Some((Seventh, QueryForm::Reach)),
         "reach" if has_keys(value, &["do", "limit", "when", "with"]) => {
-            Some((Seventh, QueryForm::ReachWith))
+            Some((Seventh, QueryForm::Reach))
         }
         "why" if has_keys(value, &["at", "do", "q", "rest", "time"]) => {
-            Some((Eighth, QueryForm::WhyAtRest))
+            Some((Eighth, QueryForm::Why))
         }
         "why" if has_keys(value, &["at", "before", "do", "q", "rest", "time"]) => {
-            Some((Eighth, QueryForm::WhyAtRest))
+            Some((Eighth, QueryForm::Why))
         }
         _ => None,
     }

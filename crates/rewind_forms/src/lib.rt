@@ -10,6 +10,7 @@ mod fault;
 mod form;
 mod laws;
 mod numbers;
+mod optional;
 mod places;
 mod points;
 mod queries;

@@ -1,26 +1,21 @@
 //! Queries: lines that ask for information.
-ghost use Rattle.std.specs.Prelude.{◌≡◌, Ok, IfOk, IfErr, codes};
+ghost use Rattle.std.specs.Prelude.{◌≡◌};
 ghost use Rattle.serde_json.specs.View.{view};
-ghost use Rattle.rewind_forms.specs.Forms.{FailsWith, OnlyIf, HasList, HasNamed};
-ghost use Rattle.rewind_forms.specs.Atoms.{PassedAsks};
-ghost use Rattle.rewind_forms.specs.Queries.{count_of as count_in, before_of as before_in, view_of as view_in, frontier_of as frontier_in, passed_of as passed_in, search_of as search_in, query_of as query_in, ChangesAsks, QueryAsks, WhyBeforeAsks};
-ghost use Rattle.rewind_forms.specs.Queries.{why_of as why_in, changes_of as changes_in, kept_step_of as kept_step_in};
-ghost use Rattle.rewind_forms.specs.Queries.{effect_of as effect_in, turns_of as turns_in, frontier_at_of as frontier_at_in, why_before_of as why_before_in, extent_of as extent_in, reach_of as reach_in, reach_with_of as reach_with_in};
-ghost use Rattle.rewind_forms.specs.Queries.{extent_there as extent_in_there, why_at_rest_of as why_at_rest_in, WhyAtRestAsks};
-ghost use Rattle.rewind_forms.specs.declared.form.QueryForm.TheVariants as kind;
+ghost use Rattle.rewind_forms.specs.Queries.{count_of as count_in, before_of as before_in, view_of as view_in, frontier_of as frontier_in, passed_of as passed_in, search_of as search_in, query_of as query_in};
+ghost use Rattle.rewind_forms.specs.Queries.{changes_of as changes_in, kept_step_of as kept_step_in, effect_of as effect_in, turns_of as turns_in, frontier_at_of as frontier_at_in, extent_of as extent_in, why_of as why_in, reach_of as reach_in};
 
-use crate::allowed::{NOTHING, allowed_at};
+use crate::allowed::NOTHING;
 use crate::conditions::condition_of;
+use crate::optional::{allowed_if, boolean_if, whole_if};
 use crate::places::{location_named, time_of};
 use crate::points::{point_at, point_there};
 use crate::{LineFault, QueryForm, Version};
 use nd_breaks::Condition;
 use nd_cluster::{Allowed, Extent, Question};
 use nd_graph::Graph;
-use nd_json::{boolean_at, small_at, text_at, whole_at};
+use nd_json::{small_at, text_at, whole_at};
 use nd_paths::Pointstamp;
 use serde_json::Value;
-use std::alloc::Global;
 
 /// A search of the positions from `lo` to `hi`, both included, for the least at which a condition holds.
 #[derive(Drop)]
@@ -104,27 +99,23 @@ pub enum Query {
 }
 
 #[tactic(auto, unfolding(crate::specs::Queries::count_of))]
-fn count_of(alloc: Global, graph: &Graph, value: &Value) -> Result<Query, LineFault>
-    ensures ok { IfOk result (λ c. count_in graph.now (view value.now) ≡ Ok c) }
-    ensures err { IfErr result (FailsWith (count_in graph.now (view value.now))) }
-    ensures memory { IfErr result (OnlyIf (HasNamed (codes "at") (view value.now))) }
+fn count_of(graph: &Graph, value: &Value) -> Result<Query, LineFault>
+    ensures { result ≡ count_in graph.now (view value.now) }
 {
-    let point = point_there(alloc, graph, value)?;
+    let point = point_there(graph, value)?;
     Ok(Query::Count(point))
 }
 
 #[tactic(auto, unfolding(crate::specs::Queries::before_of))]
-fn before_of(alloc: Global, graph: &Graph, value: &Value) -> Result<Query, LineFault>
-    ensures ok { IfOk result (λ c. before_in graph.now (view value.now) ≡ Ok c) }
-    ensures err { IfErr result (FailsWith (before_in graph.now (view value.now))) }
-    ensures memory { IfErr result (OnlyIf (HasList (codes "from") (view value.now))) }
+fn before_of(graph: &Graph, value: &Value) -> Result<Query, LineFault>
+    ensures { result ≡ before_in graph.now (view value.now) }
 {
-    let from = point_at(alloc, value, "from")?.ok_or(LineFault::BadShape)?;
-    let to = point_at(alloc, value, "to")?.ok_or(LineFault::BadShape)?;
+    let from = point_at(value, "from").ok_or(LineFault::BadShape)?;
+    let to = point_at(value, "to").ok_or(LineFault::BadShape)?;
     let first = location_named(graph, from.name).ok_or(LineFault::UnknownName)?;
     let second = location_named(graph, to.name).ok_or(LineFault::UnknownName)?;
-    let earlier = time_of(graph, first, from.numbers.as_slice()).ok_or(LineFault::BadTime)?;
-    let later = time_of(graph, second, to.numbers.as_slice()).ok_or(LineFault::BadTime)?;
+    let earlier = time_of(graph, first, from.numbers).ok_or(LineFault::BadTime)?;
+    let later = time_of(graph, second, to.numbers).ok_or(LineFault::BadTime)?;
     Ok(Query::Before(
         Pointstamp {
             location: first,
@@ -152,32 +143,23 @@ fn frontier_of(value: &Value) -> Result<Query, LineFault>
 }
 
 #[tactic(auto, unfolding(crate::specs::Queries::passed_of))]
-fn passed_of(alloc: Global, graph: &Graph, value: &Value) -> Result<Query, LineFault>
-    ensures ok { IfOk result (λ c. passed_in graph.now (view value.now) ≡ Ok c) }
-    ensures err { IfErr result (FailsWith (passed_in graph.now (view value.now))) }
-    ensures memory { IfErr result (OnlyIf (PassedAsks (view value.now))) }
+fn passed_of(graph: &Graph, value: &Value) -> Result<Query, LineFault>
+    ensures { result ≡ passed_in graph.now (view value.now) }
 {
     let q = small_at(value, "q").ok_or(LineFault::BadShape)?;
-    let point = point_there(alloc, graph, value)?;
+    let point = point_there(graph, value)?;
     Ok(Query::Passed(q, point))
 }
 
 #[tactic(auto, unfolding(crate::specs::Queries::search_of))]
-fn search_of(
-    alloc: Global,
-    version: Version,
-    graph: &Graph,
-    value: &Value,
-) -> Result<Query, LineFault>
-    ensures ok { IfOk result (λ c. search_in version graph.now (view value.now) ≡ Ok c) }
-    ensures err { IfErr result (FailsWith (search_in version graph.now (view value.now))) }
-    ensures memory { IfErr result (OnlyIf (QueryAsks version kind.Search (view value.now))) }
+fn search_of(version: Version, graph: &Graph, value: &Value) -> Result<Query, LineFault>
+    ensures { result ≡ search_in version graph.now (view value.now) }
 {
     let lo = whole_at(value, "lo").ok_or(LineFault::BadShape)?;
     let hi = whole_at(value, "hi").ok_or(LineFault::BadShape)?;
     let workers = whole_at(value, "workers").ok_or(LineFault::BadShape)?;
     let shown = value.get("when").ok_or(LineFault::BadShape)?;
-    let when = condition_of(alloc, version, graph, shown)?;
+    let when = condition_of(version, graph, shown)?;
     Ok(Query::Search(Search {
         when,
         lo,
@@ -186,31 +168,14 @@ fn search_of(
     }))
 }
 
-#[tactic(auto, unfolding(crate::specs::Queries::why_of))]
-fn why_of(alloc: Global, graph: &Graph, value: &Value) -> Result<Query, LineFault>
-    ensures ok { IfOk result (λ c. why_in graph.now (view value.now) ≡ Ok c) }
-    ensures err { IfErr result (FailsWith (why_in graph.now (view value.now))) }
-    ensures memory { IfErr result (OnlyIf (PassedAsks (view value.now))) }
-{
-    let q = small_at(value, "q").ok_or(LineFault::BadShape)?;
-    let point = point_there(alloc, graph, value)?;
-    Ok(Query::Why(Question {
-        q: q as usize,
-        point,
-        extent: Extent::AtOrBefore,
-    }))
-}
-
-#[tactic(auto, unfolding(crate::specs::Queries::changes_of, crate::specs::Queries::ChangesAsks))]
-fn changes_of(alloc: Global, graph: &Graph, value: &Value) -> Result<Query, LineFault>
-    ensures ok { IfOk result (λ c. changes_in graph.now (view value.now) ≡ Ok c) }
-    ensures err { IfErr result (FailsWith (changes_in graph.now (view value.now))) }
-    ensures memory { IfErr result (OnlyIf (ChangesAsks (view value.now))) }
+#[tactic(auto, unfolding(crate::specs::Queries::changes_of))]
+fn changes_of(graph: &Graph, value: &Value) -> Result<Query, LineFault>
+    ensures { result ≡ changes_in graph.now (view value.now) }
 {
     let q = small_at(value, "q").ok_or(LineFault::BadShape)?;
     let lo = whole_at(value, "lo").ok_or(LineFault::BadShape)?;
     let hi = whole_at(value, "hi").ok_or(LineFault::BadShape)?;
-    let point = point_there(alloc, graph, value)?;
+    let point = point_there(graph, value)?;
     Ok(Query::Changes(ViewChanges { q, point, lo, hi }))
 }
 
@@ -229,20 +194,13 @@ fn effect_of(value: &Value) -> Result<Query, LineFault>
 }
 
 #[tactic(auto, unfolding(crate::specs::Queries::turns_of))]
-fn turns_of(
-    alloc: Global,
-    version: Version,
-    graph: &Graph,
-    value: &Value,
-) -> Result<Query, LineFault>
-    ensures ok { IfOk result (λ c. turns_in version graph.now (view value.now) ≡ Ok c) }
-    ensures err { IfErr result (FailsWith (turns_in version graph.now (view value.now))) }
-    ensures memory { IfErr result (OnlyIf (QueryAsks version kind.Turns (view value.now))) }
+fn turns_of(version: Version, graph: &Graph, value: &Value) -> Result<Query, LineFault>
+    ensures { result ≡ turns_in version graph.now (view value.now) }
 {
     let lo = whole_at(value, "lo").ok_or(LineFault::BadShape)?;
     let hi = whole_at(value, "hi").ok_or(LineFault::BadShape)?;
     let shown = value.get("when").ok_or(LineFault::BadShape)?;
-    let when = condition_of(alloc, version, graph, shown)?;
+    let when = condition_of(version, graph, shown)?;
     Ok(Query::Turns(Turns { when, lo, hi }))
 }
 
@@ -256,138 +214,74 @@ fn frontier_at_of(graph: &Graph, value: &Value) -> Result<Query, LineFault>
 }
 
 // Returns which pointstamps a question is about.
-fn extent_of(strictly: bool) -> Extent
+fn extent_of(strictly: Option<bool>) -> Extent
     ensures { result ≡ extent_in strictly }
 {
-    if strictly {
-        Extent::StrictlyBefore
-    } else {
-        Extent::AtOrBefore
+    match strictly {
+        Some(true) => Extent::StrictlyBefore,
+        _ => Extent::AtOrBefore,
     }
 }
 
-#[tactic(auto, unfolding(crate::specs::Queries::why_before_of, crate::specs::Queries::WhyBeforeAsks))]
-fn why_before_of(alloc: Global, graph: &Graph, value: &Value) -> Result<Query, LineFault>
-    ensures ok { IfOk result (λ c. why_before_in graph.now (view value.now) ≡ Ok c) }
-    ensures err { IfErr result (FailsWith (why_before_in graph.now (view value.now))) }
-    ensures memory { IfErr result (OnlyIf (WhyBeforeAsks (view value.now))) }
+#[tactic(auto, unfolding(crate::specs::Queries::why_of))]
+fn why_of(graph: &Graph, value: &Value) -> Result<Query, LineFault>
+    ensures { result ≡ why_in graph.now (view value.now) }
 {
     let q = small_at(value, "q").ok_or(LineFault::BadShape)?;
-    let strictly = boolean_at(value, "before").ok_or(LineFault::BadShape)?;
-    let point = point_there(alloc, graph, value)?;
-    Ok(Query::Why(Question {
+    let strictly = boolean_if(value, "before").ok_or(LineFault::BadShape)?;
+    let limit = whole_if(value, "rest").ok_or(LineFault::BadShape)?;
+    let point = point_there(graph, value)?;
+    let asked = Question {
         q: q as usize,
         point,
         extent: extent_of(strictly),
-    }))
-}
-
-// Returns which pointstamps a question is about: those at or before, if there is no key `before`.
-#[tactic(auto, unfolding(crate::specs::Queries::extent_there))]
-fn extent_at(value: &Value) -> Option<Extent>
-    ensures { result ≡ extent_in_there (view value.now) }
-{
-    if value.get("before").is_none() {
-        return Some(Extent::AtOrBefore);
+    };
+    match limit {
+        Some(limit) => Ok(Query::WhyAtRest(WhyAtRest { asked, limit })),
+        None => Ok(Query::Why(asked)),
     }
-    let strictly = boolean_at(value, "before")?;
-    Some(extent_of(strictly))
-}
-
-#[tactic(auto, unfolding(crate::specs::Queries::why_at_rest_of, crate::specs::Queries::WhyAtRestAsks))]
-fn why_at_rest_of(alloc: Global, graph: &Graph, value: &Value) -> Result<Query, LineFault>
-    ensures ok { IfOk result (λ c. why_at_rest_in graph.now (view value.now) ≡ Ok c) }
-    ensures err { IfErr result (FailsWith (why_at_rest_in graph.now (view value.now))) }
-    ensures memory { IfErr result (OnlyIf (WhyAtRestAsks (view value.now))) }
-{
-    let q = small_at(value, "q").ok_or(LineFault::BadShape)?;
-    let extent = extent_at(value).ok_or(LineFault::BadShape)?;
-    let limit = whole_at(value, "rest").ok_or(LineFault::BadShape)?;
-    let point = point_there(alloc, graph, value)?;
-    Ok(Query::WhyAtRest(WhyAtRest {
-        asked: Question {
-            q: q as usize,
-            point,
-            extent,
-        },
-        limit,
-    }))
 }
 
 #[tactic(auto, unfolding(crate::specs::Queries::reach_of))]
-fn reach_of(
-    alloc: Global,
-    version: Version,
-    graph: &Graph,
-    value: &Value,
-) -> Result<Query, LineFault>
-    ensures ok { IfOk result (λ c. reach_in version graph.now (view value.now) ≡ Ok c) }
-    ensures err { IfErr result (FailsWith (reach_in version graph.now (view value.now))) }
-    ensures memory { IfErr result (OnlyIf (QueryAsks version kind.Reach (view value.now))) }
+fn reach_of(version: Version, graph: &Graph, value: &Value) -> Result<Query, LineFault>
+    ensures { result ≡ reach_in version graph.now (view value.now) }
 {
     let limit = whole_at(value, "limit").ok_or(LineFault::BadShape)?;
     let shown = value.get("when").ok_or(LineFault::BadShape)?;
-    let when = condition_of(alloc, version, graph, shown)?;
+    let allowed = allowed_if(value, "with").ok_or(LineFault::BadShape)?;
+    let when = condition_of(version, graph, shown)?;
     Ok(Query::Reach(Reach {
         when,
         limit,
-        allowed: NOTHING,
-    }))
-}
-
-#[tactic(auto, unfolding(crate::specs::Queries::reach_with_of))]
-fn reach_with_of(
-    alloc: Global,
-    version: Version,
-    graph: &Graph,
-    value: &Value,
-) -> Result<Query, LineFault>
-    ensures ok { IfOk result (λ c. reach_with_in version graph.now (view value.now) ≡ Ok c) }
-    ensures err { IfErr result (FailsWith (reach_with_in version graph.now (view value.now))) }
-    ensures memory { IfErr result (OnlyIf (QueryAsks version kind.ReachWith (view value.now))) }
-{
-    let limit = whole_at(value, "limit").ok_or(LineFault::BadShape)?;
-    let shown = value.get("when").ok_or(LineFault::BadShape)?;
-    let allowed = allowed_at(value, "with").ok_or(LineFault::BadShape)?;
-    let when = condition_of(alloc, version, graph, shown)?;
-    Ok(Query::Reach(Reach {
-        when,
-        limit,
-        allowed,
+        allowed: allowed.unwrap_or(NOTHING),
     }))
 }
 
 /// Returns the query of this form that the value describes, for the graph.
 pub fn query_of(
-    alloc: Global,
     version: Version,
     graph: &Graph,
     form: QueryForm,
     value: &Value,
 ) -> Result<Query, LineFault>
-    ensures ok { IfOk result (λ c. query_in version graph.now form (view value.now) ≡ Ok c) }
-    ensures err { IfErr result (FailsWith (query_in version graph.now form (view value.now))) }
-    ensures memory { IfErr result (OnlyIf (QueryAsks version form (view value.now))) }
+    ensures { result ≡ query_in version graph.now form (view value.now) }
 {
     match form {
         QueryForm::State => Ok(Query::State),
-        QueryForm::Count => count_of(alloc, graph, value),
-        QueryForm::Before => before_of(alloc, graph, value),
+        QueryForm::Count => count_of(graph, value),
+        QueryForm::Before => before_of(graph, value),
         QueryForm::View => view_of(value),
         QueryForm::Frontier => frontier_of(value),
-        QueryForm::Passed => passed_of(alloc, graph, value),
-        QueryForm::Search => search_of(alloc, version, graph, value),
+        QueryForm::Passed => passed_of(graph, value),
+        QueryForm::Search => search_of(version, graph, value),
         QueryForm::Export => Ok(Query::Export),
-        QueryForm::Why => why_of(alloc, graph, value),
-        QueryForm::Changes => changes_of(alloc, graph, value),
+        QueryForm::Why => why_of(graph, value),
+        QueryForm::Changes => changes_of(graph, value),
         QueryForm::Step => kept_step_of(value),
         QueryForm::Candidates => Ok(Query::Candidates),
         QueryForm::Effect => effect_of(value),
-        QueryForm::Turns => turns_of(alloc, version, graph, value),
+        QueryForm::Turns => turns_of(version, graph, value),
         QueryForm::FrontierAt => frontier_at_of(graph, value),
-        QueryForm::WhyBefore => why_before_of(alloc, graph, value),
-        QueryForm::Reach => reach_of(alloc, version, graph, value),
-        QueryForm::ReachWith => reach_with_of(alloc, version, graph, value),
-        QueryForm::WhyAtRest => why_at_rest_of(alloc, graph, value),
+        QueryForm::Reach => reach_of(version, graph, value),
     }
 }

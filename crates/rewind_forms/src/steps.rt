@@ -1,20 +1,21 @@
 //! The step that a line asks for.
 ghost use Rattle.std.specs.Prelude.{◌≡◌, Ok, IfOk, IfErr};
 ghost use Rattle.serde_json.specs.View.{view};
-ghost use Rattle.rewind_forms.specs.Forms.{FailsWith, OnlyIf};
-ghost use Rattle.rewind_forms.specs.Steps.{feed_of as feed_in, take_of as take_in, notice_of as notice_in, release_of as release_in, move_of as move_in, keep_of as keep_in, broadcast_of as broadcast_in, part_of as part_in, receive_of as receive_in, epoch_at as epoch_in, next_at as next_in, step_of as step_in, read_of as read_in, ObjectAsks, StepAsks};
+ghost use Rattle.rewind_forms.specs.Forms.{FailsWith, HidesNoFault};
+ghost use Rattle.rewind_forms.specs.Steps.{feed_of as feed_in, take_of as take_in, notice_of as notice_in, later_of as later_in, release_of as release_in, broadcast_of as broadcast_in, part_of as part_in, receive_of as receive_in, epoch_at as epoch_in, next_at as next_in, step_of as step_in, read_of as read_in};
 ghost use Rattle.rewind_forms.specs.Fitting.{NamesFit};
-ghost use Rattle.rewind_forms.specs.declared.form.StepForm.TheVariants as kind;
 
-use crate::numbers::{numbers_at, values_at};
+use crate::numbers::{integers_at, values_of};
+use crate::optional::{boolean_if, numbers_if};
 use crate::places::{edge_named, placed, time_of, vertex_named};
-use crate::points::{are_known, named_at, points_at, points_named};
-use crate::sends::send_of;
+use crate::points::{are_known, are_placed, are_points, named_at, points_of};
+use crate::sends::{send_of, time_if};
 use crate::shapes::alone;
 use crate::{Form, LineFault, StepForm, Version};
 use nd_graph::Graph;
-use nd_json::{boolean_at, has_text, integer_at, small, small_at, text_at};
+use nd_json::{has_text, integer_at, list_at, small, small_at, text_at};
 use nd_protocol::{BoxedTimes, Later, Next, Part, Step, Times};
+use nd_time::Timestamp;
 use serde_json::Value;
 use std::alloc::Global;
 
@@ -51,13 +52,14 @@ fn next_at(version: Version, value: &Value) -> Option<Next>
 fn feed_of(alloc: Global, version: Version, graph: &Graph, value: &Value) -> Result<Step, LineFault>
     ensures ok { IfOk result (λ c. feed_in version graph.now (view value.now) ≡ Ok c) }
     ensures err { IfErr result (FailsWith (feed_in version graph.now (view value.now))) }
-    ensures memory { IfErr result (OnlyIf (StepAsks kind.Feed (view value.now))) }
+    ensures memory { IfErr result (HidesNoFault (feed_in version graph.now (view value.now))) }
 {
     let p = small_at(value, "p").ok_or(LineFault::BadShape)?;
     let name = text_at(value, "vertex").ok_or(LineFault::BadShape)?;
-    let values = values_at(alloc, value, "values")?.ok_or(LineFault::BadShape)?;
+    let values = integers_at(value, "values").ok_or(LineFault::BadShape)?;
     let next = next_at(version, value).ok_or(LineFault::BadShape)?;
     let vertex = vertex_named(graph, name).ok_or(LineFault::UnknownName)?;
+    let values = values_of(alloc, values)?;
     Ok(Step::Feed {
         p,
         vertex,
@@ -67,16 +69,14 @@ fn feed_of(alloc: Global, version: Version, graph: &Graph, value: &Value) -> Res
 }
 
 #[tactic(auto, unfolding(crate::specs::Steps::take_of))]
-fn take_of(alloc: Global, graph: &Graph, value: &Value) -> Result<Step, LineFault>
-    ensures ok { IfOk result (λ c. take_in graph.now (view value.now) ≡ Ok c) }
-    ensures err { IfErr result (FailsWith (take_in graph.now (view value.now))) }
-    ensures memory { IfErr result (OnlyIf (StepAsks kind.Take (view value.now))) }
+fn take_of(graph: &Graph, value: &Value) -> Result<Step, LineFault>
+    ensures { result ≡ take_in graph.now (view value.now) }
 {
     let p = small_at(value, "p").ok_or(LineFault::BadShape)?;
     let number = integer_at(value, "value").ok_or(LineFault::BadShape)?;
-    let named = named_at(alloc, value, "edge")?.ok_or(LineFault::BadShape)?;
+    let named = named_at(value, "edge").ok_or(LineFault::BadShape)?;
     let edge = edge_named(graph, named.name);
-    let point = placed(graph, edge, named.numbers.as_slice())?;
+    let point = placed(graph, edge, named.numbers)?;
     Ok(Step::Take {
         p,
         edge: point.location,
@@ -86,15 +86,13 @@ fn take_of(alloc: Global, graph: &Graph, value: &Value) -> Result<Step, LineFaul
 }
 
 #[tactic(auto, unfolding(crate::specs::Steps::notice_of))]
-fn notice_of(alloc: Global, graph: &Graph, value: &Value) -> Result<Step, LineFault>
-    ensures ok { IfOk result (λ c. notice_in graph.now (view value.now) ≡ Ok c) }
-    ensures err { IfErr result (FailsWith (notice_in graph.now (view value.now))) }
-    ensures memory { IfErr result (OnlyIf (StepAsks kind.Notice (view value.now))) }
+fn notice_of(graph: &Graph, value: &Value) -> Result<Step, LineFault>
+    ensures { result ≡ notice_in graph.now (view value.now) }
 {
     let p = small_at(value, "p").ok_or(LineFault::BadShape)?;
-    let named = named_at(alloc, value, "vertex")?.ok_or(LineFault::BadShape)?;
+    let named = named_at(value, "vertex").ok_or(LineFault::BadShape)?;
     let vertex = vertex_named(graph, named.name);
-    let point = placed(graph, vertex, named.numbers.as_slice())?;
+    let point = placed(graph, vertex, named.numbers)?;
     Ok(Step::Notice {
         p,
         vertex: point.location,
@@ -102,58 +100,31 @@ fn notice_of(alloc: Global, graph: &Graph, value: &Value) -> Result<Step, LineFa
     })
 }
 
-// Returns the release that drops a capability.
+// Returns the later time at which a capability is held, if there is one.
+fn later_of(time: Option<Timestamp>, keep: Option<bool>) -> Option<Later>
+    ensures { result ≡ later_in time keep }
+{
+    let time = time?;
+    let keep = keep.unwrap_or(false);
+    Some(Later { time, keep })
+}
+
 #[tactic(auto, unfolding(crate::specs::Steps::release_of))]
 fn release_of(alloc: Global, graph: &Graph, value: &Value) -> Result<Step, LineFault>
     ensures ok { IfOk result (λ c. release_in graph.now (view value.now) ≡ Ok c) }
     ensures err { IfErr result (FailsWith (release_in graph.now (view value.now))) }
-    ensures memory { IfErr result (OnlyIf (StepAsks kind.Release (view value.now))) }
+    ensures memory { IfErr result (HidesNoFault (release_in graph.now (view value.now))) }
 {
     let p = small_at(value, "p").ok_or(LineFault::BadShape)?;
-    let named = named_at(alloc, value, "vertex")?.ok_or(LineFault::BadShape)?;
-    let vertex = vertex_named(graph, named.name);
-    let point = placed(graph, vertex, named.numbers.as_slice())?;
-    let times = BoxedTimes::new(
-        alloc,
-        Times {
-            time: point.time,
-            to: None,
-        },
-    )?;
-    Ok(Step::Release {
-        p,
-        vertex: point.location,
-        times,
-    })
-}
-
-// Returns the release that moves a capability to a later time, or keeps it beside one at a later time.
-#[tactic(auto, unfolding(crate::specs::Steps::move_of))]
-fn move_of(alloc: Global, graph: &Graph, keep: bool, value: &Value) -> Result<Step, LineFault>
-    ensures ok { IfOk result (λ c. move_in graph.now keep (view value.now) ≡ Ok c) }
-    ensures err { IfErr result (FailsWith (move_in graph.now keep (view value.now))) }
-    ensures memory { IfErr result (OnlyIf (StepAsks kind.Move (view value.now))) }
-{
-    let p = small_at(value, "p").ok_or(LineFault::BadShape)?;
-    let named = named_at(alloc, value, "vertex")?.ok_or(LineFault::BadShape)?;
-    let later = numbers_at(alloc, value, "to")?.ok_or(LineFault::BadShape)?;
+    let named = named_at(value, "vertex").ok_or(LineFault::BadShape)?;
+    let numbers = numbers_if(value, "to").ok_or(LineFault::BadShape)?;
+    let keep = boolean_if(value, "keep").ok_or(LineFault::BadShape)?;
     let vertex = vertex_named(graph, named.name).ok_or(LineFault::UnknownName)?;
-    let time = time_of(graph, vertex, named.numbers.as_slice()).ok_or(LineFault::BadTime)?;
-    let to = time_of(graph, vertex, later.as_slice()).ok_or(LineFault::BadTime)?;
-    let later = Some(Later { time: to, keep });
-    let times = BoxedTimes::new(alloc, Times { time, to: later })?;
+    let time = time_of(graph, vertex, named.numbers).ok_or(LineFault::BadTime)?;
+    let later = time_if(graph, vertex, numbers).ok_or(LineFault::BadTime)?;
+    let to = later_of(later, keep);
+    let times = BoxedTimes::new(alloc, Times { time, to })?;
     Ok(Step::Release { p, vertex, times })
-}
-
-// Returns the release that says whether it keeps the capability.
-#[tactic(auto, unfolding(crate::specs::Steps::keep_of))]
-fn keep_of(alloc: Global, graph: &Graph, value: &Value) -> Result<Step, LineFault>
-    ensures ok { IfOk result (λ c. keep_in graph.now (view value.now) ≡ Ok c) }
-    ensures err { IfErr result (FailsWith (keep_in graph.now (view value.now))) }
-    ensures memory { IfErr result (OnlyIf (StepAsks kind.Keep (view value.now))) }
-{
-    let keep = boolean_at(value, "keep").ok_or(LineFault::BadShape)?;
-    move_of(alloc, graph, keep, value)
 }
 
 // Returns a broadcast of all that is unsent.
@@ -170,14 +141,20 @@ fn broadcast_of(value: &Value) -> Result<Step, LineFault>
 fn part_of(alloc: Global, graph: &Graph, value: &Value) -> Result<Step, LineFault>
     ensures ok { IfOk result (λ c. part_in graph.now (view value.now) ≡ Ok c) }
     ensures err { IfErr result (FailsWith (part_in graph.now (view value.now))) }
-    ensures memory { IfErr result (OnlyIf (StepAsks kind.Part (view value.now))) }
+    ensures memory { IfErr result (HidesNoFault (part_in graph.now (view value.now))) }
 {
     let p = small_at(value, "p").ok_or(LineFault::BadShape)?;
-    let named = points_at(alloc, value, "part")?.ok_or(LineFault::BadShape)?;
-    if !are_known(graph, named.as_slice()) {
+    let items = list_at(value, "part").ok_or(LineFault::BadShape)?;
+    if !are_points(items) {
+        return Err(LineFault::BadShape);
+    }
+    if !are_known(graph, items) {
         return Err(LineFault::UnknownName);
     }
-    let points = points_named(alloc, graph, named.as_slice())?.ok_or(LineFault::BadTime)?;
+    if !are_placed(graph, items) {
+        return Err(LineFault::BadTime);
+    }
+    let points = points_of(alloc, graph, items)?;
     Ok(Step::Broadcast {
         p,
         part: Part::Points(points),
@@ -204,15 +181,13 @@ pub fn step_of(
 ) -> Result<Step, LineFault>
     ensures ok { IfOk result (λ c. step_in version graph.now form (view value.now) ≡ Ok c) }
     ensures err { IfErr result (FailsWith (step_in version graph.now form (view value.now))) }
-    ensures memory { IfErr result (OnlyIf (StepAsks form (view value.now))) }
+    ensures memory { IfErr result (HidesNoFault (step_in version graph.now form (view value.now))) }
 {
     match form {
         StepForm::Feed => feed_of(alloc, version, graph, value),
-        StepForm::Take => take_of(alloc, graph, value),
-        StepForm::Notice => notice_of(alloc, graph, value),
+        StepForm::Take => take_of(graph, value),
+        StepForm::Notice => notice_of(graph, value),
         StepForm::Release => release_of(alloc, graph, value),
-        StepForm::Move => move_of(alloc, graph, false, value),
-        StepForm::Keep => keep_of(alloc, graph, value),
         StepForm::Send => send_of(alloc, graph, value),
         StepForm::Broadcast => broadcast_of(value),
         StepForm::Part => part_of(alloc, graph, value),
@@ -223,13 +198,13 @@ pub fn step_of(
 /// Returns the step that the value asks for in a script of version 6 or later, for the graph, or the first of these errors that
 /// applies: `BadShape` if it is not a step, `UnknownName`, `BadTime`.
 ///
-/// Returns `Memory` only if the allocation of a list of the step failed.
-#[tactic(auto, unfolding(crate::specs::Steps::read_of, crate::specs::Steps::ObjectAsks))]
+/// Returns `Memory` only in place of a step.
+#[tactic(auto, unfolding(crate::specs::Steps::read_of))]
 pub fn read_step(alloc: Global, graph: &Graph, value: &Value) -> Result<Step, LineFault>
     ensures ok { IfOk result (λ x. read_in graph.now (view value.now) ≡ Ok x) }
     ensures fits { IfOk result (NamesFit graph.now) }
     ensures err { IfErr result (FailsWith (read_in graph.now (view value.now))) }
-    ensures memory { IfErr result (OnlyIf (ObjectAsks (view value.now))) }
+    ensures memory { IfErr result (HidesNoFault (read_in graph.now (view value.now))) }
 {
     match Form::of(Version::Sixth, value) {
         Some(Form::Step(form)) => step_of(alloc, Version::Sixth, graph, form, value),

@@ -1,9 +1,8 @@
-use Rattle.std.proofs.Common.{◌≡◌, ◌≢◌, ◌∙◌, ◌<◌, ◌+◌, length, get_or, map, Result, Option, ap, sym, subst, arith, rules}
+use Rattle.std.proofs.Common.{◌≡◌, ◌∙◌, ◌<◌, ◌+◌, length, get_or, map, Result, Option, ap, sym, subst, arith}
 use Rattle.std.proofs.lemmas.List.{get_or-map, length-map}
 use Rattle.serde_json.specs.View.{view}
 use Rattle.nd_breaks.specs.Conditions.{ConditionValue}
 use Rattle.rewind_forms.specs.declared.fault.LineFault.{LineFault}
-use Rattle.rewind_forms.specs.declared.fault.LineFault.TheVariants.{Memory}
 use Rattle.rewind_forms.proofs.ConditionsLemmas.{HaveRead, read_literal, read_fault}
 use Rattle.rewind_forms.proofs.conditions.literals_of.Goals as goal
 use Rattle.rewind_forms.proofs.conditions.literals_of.Goals.{in-Ok, in-Err}
@@ -21,9 +20,8 @@ loop-item-preserved c =
     elim c.match-literal_of.branch [
       | in-Ok w ↦ subst P (sym w.read-is)
           (read_literal g q (map view items) i (view item) lt is c.loop-item.read w.and_literal-read.result w.in-Ok.literal
-          w.in-Ok.ensures.ok w.and_literal-read.ensures.literals w.and_literal-read.ensures.quantifier c.loop-item.invariant)
+          (sym c.literal_of.ensures ∙ w.in-Ok.is) w.and_literal-read.ensures.literals w.and_literal-read.ensures.quantifier c.loop-item.invariant)
       | in-Err w ↦ subst P (sym w.read-is)
-          (let other : w.in-Err.fault ≢ Memory = first_of (search rules, grind arith, cc) in
-          read_fault g q (map view items) i (view item) lt is c.loop-item.read w.in-Err.fault w.and_fault.result other
-          (w.in-Err.ensures.err other) w.and_fault.ensures c.loop-item.invariant)
+          (read_fault g q (map view items) i (view item) lt is c.loop-item.read w.in-Err.fault w.and_fault.result
+          (sym c.literal_of.ensures ∙ w.in-Err.is) w.and_fault.ensures c.loop-item.invariant)
     ]

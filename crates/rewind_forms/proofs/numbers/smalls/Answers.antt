@@ -1,20 +1,11 @@
-use Rattle.std.proofs.Common.{◌∙◌, sym}
+use Rattle.std.proofs.Common.{sym, map}
 use Rattle.serde_json.specs.View.{view}
 use Rattle.nd_json.specs.Forms.{small}
-use Rattle.rewind_forms.proofs.ReadInTurn.{read_start, read_more, read_none, read_all}
+use Rattle.rewind_forms.proofs.ReadInTurn.{every-true, every-false}
 use Rattle.rewind_forms.proofs.numbers.smalls.Goals as goal
 
-pub loop-item-init : goal.loop-item-init
-loop-item-init c = read_start view small c.args.items.now c.new-numbers.result.items c.new-numbers.ensures.items
+pub returns-then-are_small : goal.returns-then-are_small
+returns-then-are_small c = every-true small (map view c.args.items.now) (sym c.if-are_small.ensures)
 
-pub returns-in_default : goal.returns-in_default
-returns-in_default c =
-    read_none view small c.args.items.now c.item-item.result c.loop-item.item-index c.loop-item.numbers.items c.loop-item-test.true c.item-item.is (sym c.small.ensures ∙ c.in_default.is) c.loop-item.invariant
-
-pub loop-item-preserved : goal.loop-item-preserved
-loop-item-preserved c =
-    rw (c.in_ok-push.ensures.items) (read_more view small c.args.items.now c.item-item.result c.loop-item.item-index c.loop-item.numbers.items c.in-Some.number
-    c.loop-item-test.true c.item-item.is (sym c.small.ensures ∙ c.in-Some.is) c.loop-item.invariant)
-
-pub returns : goal.returns
-returns c = read_all view small c.args.items.now c.loop-item.item-index c.loop-item.numbers.items c.loop-item-test.false c.loop-item.invariant
+pub returns-else-are_small : goal.returns-else-are_small
+returns-else-are_small c = every-false small (map view c.args.items.now) (sym c.if-are_small.ensures)

@@ -1,7 +1,8 @@
 use Rattle.std.proofs.Common.{◌≡◌, map, drop}
-use Rattle.rewind_forms.specs.Forms.{name_and_numbers}
-use Rattle.rewind_forms.specs.Places.{are_known}
+use Rattle.serde_json.specs.View.{view}
+use Rattle.rewind_forms.specs.Places.{listed_location}
+use Rattle.rewind_forms.specs.Forms.{are_read}
 use Rattle.rewind_forms.proofs.points.are_known.Given as goal
 
-abbrev pub invariant-loop-point : goal.invariant-loop-point
-invariant-loop-point l = are_known l.graph (map name_and_numbers l.points) ≡ are_known l.graph (map name_and_numbers (drop l.point-index l.points))
+abbrev pub invariant-loop-item : goal.invariant-loop-item
+invariant-loop-item l = are_read (listed_location l.graph) (map view l.items) ≡ are_read (listed_location l.graph) (map view (drop l.item-index l.items))
