@@ -63,12 +63,12 @@ notice_of g d =
     after (placed g (vertex_named g named.0) named.1) (λ point.
     Ok (Notice p point.location point.time))))
 
--- the time at which a capability is held later, if there is one, and whether it is kept beside it
+-- the time at which a capability is held later, if there is one, and whether the first capability stays
 abbrev pub later_of : Option Time → Option Bool → Option Later
 later_of time keep = option_map (λ t. record { time = t; keep = unwrap_or keep false }) time
 
--- the release of a capability, which is dropped, or moves to the time at the key "to", or is kept beside one there; both times are of
--- the vertex
+-- the release of a capability, which is dropped, or moves to the time at the key "to", or stays with a second one there; both times
+-- are of the vertex
 unfoldable pub release_of : Dataflow → Data → Result (Step Global) LineFault
 release_of g d =
     given BadShape (small_at (codes "p") d) (λ p.

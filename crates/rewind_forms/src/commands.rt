@@ -26,7 +26,8 @@ fn jump_of(value: &Value) -> Result<Command, LineFault>
 
 // Returns the items as a list of processors, if there are items.
 fn listed(alloc: Global, items: Option<&[Value]>) -> Result<Option<Processors>, AllocError>
-    ensures { IfOk result (λ o. o ≡ option_map (λ ns. all_read small_in (map view ns.now)) items.entry) }
+    ensures { IfOk result (λ o. o
+        ≡ option_map (λ ns. all_read small_in (map view ns.now)) items.entry) }
 {
     match items {
         Some(items) => Ok(Some(processors_of(alloc, items)?)),
@@ -81,7 +82,8 @@ pub fn command_of(
 ) -> Result<Command, LineFault>
     ensures ok { IfOk result (λ c. command_in version graph.now form (view value.now) ≡ Ok c) }
     ensures err { IfErr result (FailsWith (command_in version graph.now form (view value.now))) }
-    ensures memory { IfErr result (HidesNoFault (command_in version graph.now form (view value.now))) }
+    ensures memory { IfErr result
+        (HidesNoFault (command_in version graph.now form (view value.now))) }
 {
     match form {
         CommandForm::Back => Ok(Command::Back),
