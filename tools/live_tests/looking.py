@@ -3,7 +3,7 @@ import json
 import os
 import unittest
 
-from live_tests.served import Page, Served, feed, needs_browser, stuck
+from live_tests.served import Page, Served, feed, needs_browser, opening_of, stuck
 
 # Where pictures of the page go, if anywhere.
 FOLDER = os.environ.get("LIVE_PICTURES")
@@ -28,6 +28,15 @@ return {
   contrast: (Math.max(ink, paper) + 0.05) / (Math.min(ink, paper) + 0.05),
   used: document.querySelector(".graph").getBoundingClientRect().width / frame.width,
 };
+"""
+# How many updates have a text beside their arrow, how many of these texts are over another, and how many are
+# cut off at the side.
+BESIDE = """
+const all = [...document.querySelectorAll("#spacetime .arrow text")].map((it) => it.getBoundingClientRect());
+const isOver = (a, b) => a.left < b.right && b.left < a.right && a.top < b.bottom && b.top < a.bottom;
+const right = document.getElementById("spacetime").getBoundingClientRect().right;
+const over = all.filter((it, at) => all.slice(at + 1).some((other) => isOver(it, other)));
+return [all.length, over.length, all.filter((it) => it.right > right).length];
 """
 
 
@@ -92,6 +101,17 @@ class Large(unittest.TestCase):
             self.assertEqual(page.run(wide), begun)
             page.click(page.find("#smaller"))
             self.assertLess(page.run(wide), 0.9 * begun)
+
+
+@needs_browser
+class Lanes(unittest.TestCase):
+    def test_beside_arrows(self):
+        """Of what updates bring as much is beside their arrows as there is room for."""
+        lines = [*opening_of("loop-by-lot", 3), '{"do":"run","limit":200,"seed":1}']
+        with Served(lines, ["--processors", "2"]) as live, Page(live, 1280, 943) as page:
+            page.at(201, "the page")
+            seen = page.wait(lambda: (it := page.run(BESIDE))[0] and it, "texts beside arrows")
+            self.assertEqual(seen[1:], [0, 0], seen)
 
 
 @needs_browser

@@ -255,6 +255,18 @@ function updateArrow([sender, receiver, begin, end]) {
   return arrow(end === null ? "way" : "update", [from, y(sender)], tip, words, text);
 }
 
+// Takes away the texts of arrows for which there is no room beside those before, or before the right edge.
+function thinned(arrows) {
+  const taken = [];
+  for (const text of arrows.map((it) => it.querySelector("text")).filter(Boolean)) {
+    const left = Number(text.getAttribute("x")), top = Number(text.getAttribute("y"));
+    const right = left + text.textContent.length * LETTER;
+    if (right > LEFT + plotWidth() + RIGHT || taken.some((it) => left < it.right && it.left < right && Math.abs(it.top - top) < 12)) text.remove();
+    else taken.push({ left, right, top });
+  }
+  return arrows;
+}
+
 // The records that steps send to other processors, each to the step that takes it.
 function recordArrows(items) {
   const used = new Set(), arrows = [];
@@ -355,7 +367,7 @@ function showSteps() {
     if (lane < about.processors) svg.append(drawn("line", { class: "lane", x1: LEFT, x2: right, y1: y(lane), y2: y(lane) }));
   });
   const isListed = items.length > 0, marks = picture.marks.filter((it) => it.at >= first - 1 && it.at <= last && it.p < about.processors);
-  svg.append(...truthLine(), ...(isListed ? [...messages.map(updateArrow), ...recordArrows(items), ...items.map(stepMark), ...(stepWidth() > 8 ? labelsOf(items) : [])] : densityParts((over && over.near) || [], (p) => y(p) + laneHeight() / 2 - 3, laneHeight() - 6)));
+  svg.append(...truthLine(), ...(isListed ? [...thinned(messages.map(updateArrow)), ...recordArrows(items), ...items.map(stepMark), ...(stepWidth() > 8 ? labelsOf(items) : [])] : densityParts((over && over.near) || [], (p) => y(p) + laneHeight() / 2 - 3, laneHeight() - 6)));
   svg.append(...ringsOf(), ...marks.map(refusedMark));
   if (picture.at >= first - 1 && picture.at <= last) svg.append(cursorLine(x(picture.at) + stepWidth() / 2, high));
   const focused = document.activeElement && document.activeElement.closest("#spacetime .step");
