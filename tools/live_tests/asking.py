@@ -235,7 +235,8 @@ class Finishing(unittest.TestCase):
             told = live.asked("finish", {"q": 0, "at": "z", "time": [0]})
             limit = "this does not come to rest within 100000 steps"
             self.assertEqual((told["ends"], told["words"]), (False, limit))
-            self.assertIn("a record goes round loop f (0): in the next 300 steps its", told["notes"][0])
+            next_ = "a record goes round loop f (0): in the next 300 steps its counter grows from 49 to 199"
+            self.assertIn(next_, told["notes"][0])
             self.assertEqual(live.command({"do": "jump", "to": 0})["picture"]["rounds"], "")
             live.command(feed([], next="next"))
             self.assertEqual(live.command({"do": "run", "limit": 9})["picture"]["rounds"], "")

@@ -84,9 +84,9 @@ def way_of(ask, graph, query):
         run = {"do": "run", "limit": reply["ran"]}
         lines.append(run_until(ask, graph, query, run) or run)
     elif reply.get("stop") == "limit":
+        loop = goes_round(ask, graph)
         found = by_lot(ask, graph, query)
         lines, reply = (lines + [found], {**reply, "passed": True}) if found else (lines, reply)
-        loop = goes_round(ask, graph)
     return Way(first, lines, reply, loop)
 
 
@@ -207,9 +207,13 @@ def nowhere(reply, limit):
 
 
 def goes_round(ask, graph):
-    """Runs a copy, and says whether it goes round a loop."""
+    """Runs a copy, says whether it goes round a loop, and goes back."""
     ran = ask({"do": "run", "limit": LOOKED_BACK})
-    return rounds(ask, graph, ran, "in the next") if "ran" in ran else ""
+    if "ran" not in ran:
+        return ""
+    said = rounds(ask, graph, ran, "in the next")
+    ask({"do": "jump", "to": ran["at"] - ran["ran"]})
+    return said
 
 
 def steps_back(reply):
