@@ -23,7 +23,6 @@ from rewind_tools.timely.logs import Unreadable, Unsupported
 MOST_PORTS = 16
 # How much of an operator's name is taken over, and by how many rounds a summary may delay.
 LONGEST, MOST_DELAY = 14, 16
-NO_DELAY = 0
 # The node that stands for the border of a scope, in its channels and batches; and the ports there: outside
 # an input, and within what comes from it; within what leaves, and outside an output.
 BORDER = 0
