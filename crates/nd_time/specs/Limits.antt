@@ -1,7 +1,7 @@
 -- The limits of the program, as contracts cite them. The constants are those of src/limits.rt, where
 -- `limits_are_fixed` states the number of each.
 use Rattle.std.specs.Prelude.{ℕ}
-use Rattle.nd_time.specs.declared.limits.TheConstants.{MAX_DEPTH, MAX_DEPTH_V1, MAX_LOCATIONS, MAX_LOCATIONS_V5, MAX_PORTS, MAX_NAME, MAX_PROCESSORS, MAX_PROCESSORS_V1, MAX_COUNT, MAX_VALUES, MAX_QUEUE, MAX_KEPT, MAX_BREAKS, MAX_LOG, MAX_CLIENTS, MAX_WORKERS, PIECE_LENGTH, MAX_REACHED, MAX_LINE, MAX_INPUT, MAX_TOLD, MAX_LITERALS}
+use Rattle.nd_time.specs.declared.limits.TheConstants.{MAX_DEPTH, MAX_DEPTH_V1, MAX_LOCATIONS, MAX_LOCATIONS_V8, MAX_LOCATIONS_V5, MAX_PORTS, MAX_NAME, MAX_NAME_V8, MAX_PROCESSORS, MAX_PROCESSORS_V8, MAX_PROCESSORS_V1, MAX_COUNT, MAX_VALUES, MAX_QUEUE, MAX_KEPT, MAX_BREAKS, MAX_LOG, MAX_CLIENTS, MAX_WORKERS, PIECE_LENGTH, MAX_REACHED, MAX_LINE, MAX_GRAPH_LINE, MAX_INPUT, MAX_TOLD, MAX_LITERALS}
 
 -- the greatest depth of nested loops; `max_depth_v1` is that of a graph of version 1
 abbrev pub max_depth : ℕ
@@ -10,9 +10,12 @@ max_depth = MAX_DEPTH
 abbrev pub max_depth_v1 : ℕ
 max_depth_v1 = MAX_DEPTH_V1
 
--- the most locations of a graph; `max_locations_v5` is that of a script of a version before 6
+-- the most locations of a graph; `max_locations_v8` is that of a script of the versions 6 to 8, and `max_locations_v5` of one before 6
 abbrev pub max_locations : ℕ
 max_locations = MAX_LOCATIONS
+
+abbrev pub max_locations_v8 : ℕ
+max_locations_v8 = MAX_LOCATIONS_V8
 
 abbrev pub max_locations_v5 : ℕ
 max_locations_v5 = MAX_LOCATIONS_V5
@@ -21,19 +24,29 @@ max_locations_v5 = MAX_LOCATIONS_V5
 abbrev pub max_ports : ℕ
 max_ports = MAX_PORTS
 
--- the greatest length of a name in bytes; the next two are the least and the greatest byte in it, '!' and '~'
+-- the greatest length of a name in bytes; the next two are the least and the greatest byte in it, ' ' and '~'
 abbrev pub max_name : ℕ
 max_name = MAX_NAME
 
 abbrev pub least_of_name : ℕ
-least_of_name = 33
+least_of_name = 32
 
 abbrev pub greatest_of_name : ℕ
 greatest_of_name = 126
 
--- the most processors of a cluster; `max_processors_v1` is that of a script of version 1
+-- the greatest length of a name and the least byte in it, '!', in a script of a version before 9
+abbrev pub max_name_v8 : ℕ
+max_name_v8 = MAX_NAME_V8
+
+abbrev pub least_of_name_v8 : ℕ
+least_of_name_v8 = 33
+
+-- the most processors of a cluster; `max_processors_v8` is that of a script of the versions 2 to 8, and `max_processors_v1` of version 1
 abbrev pub max_processors : ℕ
 max_processors = MAX_PROCESSORS
+
+abbrev pub max_processors_v8 : ℕ
+max_processors_v8 = MAX_PROCESSORS_V8
 
 abbrev pub max_processors_v1 : ℕ
 max_processors_v1 = MAX_PROCESSORS_V1
@@ -86,6 +99,10 @@ max_reached = MAX_REACHED
 -- the greatest length of a line in bytes, without its newline
 abbrev pub max_line : ℕ
 max_line = MAX_LINE
+
+-- the greatest length of the graph's line in bytes, without its newline, in a script of version 9
+abbrev pub max_graph_line : ℕ
+max_graph_line = MAX_GRAPH_LINE
 
 -- the greatest length of a script in bytes
 abbrev pub max_input : ℕ

@@ -21,12 +21,6 @@ pub record IsSmallerAtFirstDifference (xs ys : List ℕ) : Type 0 where
 abbrev pub IsLexicallyAtMost : List ℕ → List ℕ → Type 0
 IsLexicallyAtMost xs ys = (xs ≡ ys) ⊎ IsSmallerAtFirstDifference xs ys
 
--- s is at or before t: they have the same depth, and the epoch and the counters of s are at most those of t
-pub record IsAtOrBefore (s t : Time) : Type 0 where
-  pub depth : length s.counters ≡ length t.counters
-  pub epoch : s.epoch ≤ t.epoch
-  pub counters : IsLexicallyAtMost s.counters t.counters
-
 -- ---- what the vertices of a loop do to the counters (Naiad, SOSP 2013, section 2.1)
 
 -- an ingress appends 0

@@ -2,16 +2,19 @@
 #![tactic(auto)]
 
 ghost use Rattle.std.specs.Prelude.{◌≡◌, ◌≤◌, ◌<◌, ◌↔◌, IsTrue, IsSome, IfSome, IsOk, IfOk, length, take};
-ghost use Rattle.nd_time.specs.Time.{Time, IsAtOrBefore, ingress_of, egress_of, feedback_of, last_of};
+ghost use Rattle.nd_time.specs.Time.{Time, ingress_of, egress_of, feedback_of, last_of};
+ghost use Rattle.nd_time.specs.Order.{IsAtOrBefore, IsAtOrBeforeBy};
 ghost use Rattle.nd_time.specs.Limits.{max_depth, max_counter};
 ghost use Rattle.nd_time.specs.Listing.{time_cmp};
 
 mod faults;
 pub mod limits;
+mod order;
 
 use arrayvec::ArrayVec;
 pub use faults::Code;
 use limits::MAX_DEPTH;
+pub use order::TimeOrder;
 use std::cmp::Ordering;
 use std::marker::Model;
 use thiserror::Error;
@@ -153,15 +156,20 @@ impl Timestamp {
         }
     }
 
-    /// Returns whether this timestamp is at or before `other`. It is not if their depths differ.
-    ///
-    /// Epochs compare as numbers and counters lexicographically.
+    /// Returns whether this timestamp is at or before `other` by the lexicographic order. It is not if their depths differ.
     pub fn at_or_before(&self, other: &Timestamp) -> bool
         ensures { IsTrue result ↔ IsAtOrBefore self.now other.now }
     {
+        self.at_or_before_by(other, TimeOrder::Lexicographic)
+    }
+
+    /// Returns whether this timestamp is at or before `other` by the order. It is not if their depths differ.
+    pub fn at_or_before_by(&self, other: &Timestamp, order: TimeOrder) -> bool
+        ensures { IsTrue result ↔ IsAtOrBeforeBy order self.now other.now }
+    {
         self.depth() == other.depth()
             && self.epoch <= other.epoch
-            && self.counters.cmp(&other.counters).is_le()
+            && order.are_at_most(self.counters(), other.counters())
     }
 
     /// Returns the timestamp after an ingress vertex, or `None` if there is no room for another counter.
