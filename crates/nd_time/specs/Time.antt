@@ -1,5 +1,5 @@
 -- Timestamps, with unbounded natural numbers (Naiad, SOSP 2013, section 2.1).
-use Rattle.std.specs.Prelude.{◌≡◌, ℕ, ◌+◌, ◌<◌, ◌≤◌, ◌⊎◌, List, [], ◌∷◌, ◌++◌, length}
+use Rattle.std.specs.Prelude.{◌≡◌, ℕ, ◌+◌, ◌<◌, ◌⊎◌, List, [], ◌∷◌, ◌++◌}
 
 -- an epoch and the loop counters, outermost first
 pub record Time : Type 0 where
