@@ -10,10 +10,10 @@ use Rattle.std.specs.FinMap as fin
 use Rattle.nd_graph.specs.Graph.{Dataflow, ArcAgrees, arcs, depths}
 use Rattle.nd_graph.specs.Checked.{IsFaultless}
 use Rattle.nd_paths.specs.Order.{IsAccepted}
-use Rattle.nd_paths.specs.Fault.{IsFault}
+use Rattle.nd_summaries.specs.Fault.{IsFault}
 use Rattle.nd_paths.specs.Point.{point_exact}
-use Rattle.nd_paths.specs.declared.accept.PathFault.{PathFault}
-use Rattle.nd_paths.specs.declared.accept.PathFault.TheVariants as path
+use Rattle.nd_summaries.specs.declared.accept.PathFault.{PathFault}
+use Rattle.nd_summaries.specs.declared.accept.PathFault.TheVariants as path
 use Rattle.nd_paths.specs.declared.point.Pointstamp.{Pointstamp}
 use Rattle.std.proofs.lemmas.Map.Views.{tells_apart}
 use Rattle.nd_delta.specs.Delta.{DeltaValue, none, plus, at, set, same, is_point, at-none, at-plus, at-set}

@@ -7,8 +7,8 @@ use Rattle.nd_graph.specs.Fault.{code_of}
 use Rattle.nd_graph.specs.Graph.{Dataflow}
 use Rattle.nd_graph.specs.declared.fault.GraphFault.TheVariants as graph
 use Rattle.nd_paths.specs.Order.{FailsAt, IsAccepted}
-use Rattle.nd_paths.specs.declared.accept.PathFault.{PathFault}
-use Rattle.nd_paths.specs.declared.accept.PathFault.TheVariants as path
+use Rattle.nd_summaries.specs.declared.accept.PathFault.{PathFault}
+use Rattle.nd_summaries.specs.declared.accept.PathFault.TheVariants as path
 use Rattle.nd_paths.specs.declared.point.Pointstamp.{Pointstamp}
 use Rattle.nd_processor.specs.State.{one_at, token_point}
 use Rattle.nd_cluster.specs.declared.start.StartFault.{StartFault}

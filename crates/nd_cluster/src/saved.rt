@@ -37,7 +37,7 @@ impl<A: Allocator + Copy> Cluster<A> {
         requires { FitsIn self.now.graph saved.now }
         ensures { IfOk result (λ c. c ≡ state_in self.now.graph saved.now) }
     {
-        let paths = self.paths().copy(alloc)?;
+        let paths = self.paths().copy()?;
         let processors = copied_processors(alloc, &saved.processors)?;
         let views = copied_views(alloc, &saved.views)?;
         let mesh = saved.mesh.copy(alloc)?;

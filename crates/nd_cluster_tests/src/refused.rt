@@ -68,7 +68,7 @@ fn graphs<A: Allocator + Copy>(alloc: A, json: Global) -> Option<()> {
 fn paths<A: Allocator + Copy>(alloc: A, json: Global) -> Option<()> {
     let paths = paths_of(json, alloc, LOOP)?;
     paths.graph().copy(alloc).ok()?;
-    paths.copy(alloc).ok()?;
+    paths.copy().ok()?;
     Some(())
 }
 

@@ -1,20 +1,2 @@
-pub mod Orders
-pub mod Summaries
-pub mod Walks
-pub mod Cuts
-pub mod Acceptance
-pub mod RowLemmas
-pub mod Sweeps
-pub mod AllRows
-pub mod Raised
-pub mod Stored
-pub mod Graphs
-pub mod Decisions
-pub mod TableLemmas
 pub mod PointOrder
-pub mod Minimal
-pub mod Algebra
-pub mod Unique
-pub mod Held
-pub mod SummaryLemmas
 mod Arrivals

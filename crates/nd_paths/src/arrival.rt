@@ -1,15 +1,15 @@
 //! The times into which walks turn the time of a pointstamp.
-ghost use Rattle.std.specs.Prelude.{◌≡◌, ◌+◌, ◌*◌, ◌≤◌, ◌↔◌, IsTrue, length};
-ghost use Rattle.nd_time.specs.Time.{Time, IsAtOrBefore};
+ghost use Rattle.std.specs.Prelude.{◌≡◌, ◌≤◌, ◌↔◌, IsTrue, length};
+ghost use Rattle.nd_time.specs.Time.{Time};
+ghost use Rattle.nd_time.specs.Order.{IsAtOrBeforeBy, IsEachAtMost};
 ghost use Rattle.nd_time.specs.Listing.{time_cmp};
-ghost use Rattle.nd_time.specs.Limits.{max_depth, max_counter};
-ghost use Rattle.nd_paths.specs.Steps.{keeps};
-ghost use Rattle.nd_paths.specs.Arrival.{HoldsFew, AreTurned};
+ghost use Rattle.nd_time.specs.Limits.{max_depth};
+ghost use Rattle.nd_summaries.specs.Summary.{left_by};
+ghost use Rattle.nd_paths.specs.Arrival.{turned as turned_by};
 
-use crate::Summary;
-use crate::table::{KEEPS, look};
 use arrayvec::ArrayVec;
-use nd_time::Timestamp;
+use nd_summaries::Summary;
+use nd_time::{TimeOrder, Timestamp};
 use nd_time::limits::MAX_DEPTH;
 use std::marker::Model;
 
@@ -63,16 +63,42 @@ impl ArrivalTime {
         }
     }
 
-    /// Returns whether this time is at or before `other`. It is not if their depths differ.
-    ///
-    /// Epochs compare as numbers and counters lexicographically.
-    pub fn at_or_before(&self, other: &ArrivalTime) -> bool
-        ensures { IsTrue result ↔ IsAtOrBefore self.now other.now }
+    /// Returns the time into which a summary turns `time`.
+    pub(crate) fn turned(summary: &Summary, time: &Timestamp) -> ArrivalTime
+        requires keep { summary.now.keep ≤ length time.now.counters }
+        requires deep { left_by summary.now ≤ max_depth }
+        ensures { result ≡ turned_by summary.now time.now }
+    {
+        ArrivalTime {
+            epoch: time.epoch(),
+            counters: summary.reached(time.counters()),
+        }
+    }
+
+    /// Returns whether this time is at or before `other` by the order. It is not if their depths differ.
+    pub fn at_or_before_by(&self, other: &ArrivalTime, order: TimeOrder) -> bool
+        ensures { IsTrue result ↔ IsAtOrBeforeBy order self.now other.now }
     {
         self.counters.len() == other.counters.len()
             && self.epoch <= other.epoch
-            && self.counters.cmp(&other.counters).is_le()
+            && match order {
+                TimeOrder::Lexicographic => self.counters.cmp(&other.counters).is_le(),
+                TimeOrder::Product => are_each_at_most(&self.counters, &other.counters),
+            }
     }
+}
+
+// Returns whether each number is at most the other's at its place.
+fn are_each_at_most(own: &[u64], theirs: &[u64]) -> bool
+    requires { length own.now ≡ length theirs.now }
+    ensures { IsTrue result ↔ IsEachAtMost own.now theirs.now }
+{
+    for place in 0..own.len() {
+        if theirs[place] < own[place] {
+            return false;
+        }
+    }
+    true
 }
 
 /// States that arrival times compare as they are listed: by epoch, and then by counters in
@@ -80,25 +106,3 @@ impl ArrivalTime {
 pub fn arrival_times_are_listed()
     ensures { (s t : Time) → ⟦<ArrivalTime as Ord>⟧.cmp s t ≡ time_cmp s t }
 {}
-
-/// Returns the times into which the summaries held for the location `to` turn `time`.
-pub fn turned_by(
-    row: &[Option<Summary>],
-    to: usize,
-    time: &Timestamp,
-) -> ArrayVec<ArrivalTime, KEEPS>
-    requires long { to * keeps + keeps ≤ length row.now }
-    requires few { HoldsFew row.now to (length time.now.counters) }
-    ensures { AreTurned row.now to time.now result.items }
-{
-    let mut times = ArrayVec::new();
-    for keep in 0..KEEPS {
-        if let Some(summary) = look(row, to, keep) {
-            times.push(ArrivalTime {
-                epoch: time.epoch(),
-                counters: summary.reached(time.counters()),
-            });
-        }
-    }
-    times
-}

@@ -1,50 +1,43 @@
 //! The order of pointstamps.
 ghost use Rattle.std.specs.Prelude.{◌≡◌, ◌<◌, ◌↔◌, ◌⊎◌, All, IsTrue, IfOk, IfErr, List, ◌∷◌};
 ghost use Rattle.nd_paths.specs.declared.point.Pointstamp.{Pointstamp};
-ghost use Rattle.nd_paths.specs.Order.{CouldResultIn, Fits, IsAccepted, IsStrictlyBefore, IsWalk};
+ghost use Rattle.nd_paths.specs.Order.{CouldResultIn, Fits, IsAccepted, IsStrictlyBefore};
 ghost use Rattle.nd_paths.specs.Laws.{IsMinimalAmong};
 ghost use Rattle.nd_graph.specs.declared.graph.Arc.{Arc};
 ghost use Rattle.nd_graph.specs.Graph.{location_count};
-ghost use Rattle.nd_paths.specs.Summary.{AreLeastSummaries};
-ghost use Rattle.nd_paths.specs.Fault.{IsFault};
-ghost use Rattle.nd_paths.specs.Table.{IsTable};
+ghost use Rattle.nd_time.specs.declared.order.TimeOrder.TheVariants.{Lexicographic};
+ghost use Rattle.nd_summaries.specs.Walk.{IsWalk};
+ghost use Rattle.nd_summaries.specs.Summary.{AreMinimalSummaries, AreLeastSummaries};
+ghost use Rattle.nd_summaries.specs.Fault.{IsFault};
 ghost use Rattle.nd_paths.specs.Arrival.{TurnsInto, CoverAll, WalksLeadOn};
 
-use crate::accept::{PathFault, rows_of};
-use crate::arrival::{ArrivalTime, turned_by};
-use crate::table::{KEEPS, holds_any, leads_among, listed};
-use crate::{Pointstamp, Summary};
-use arrayvec::ArrayVec;
+use crate::{ArrivalTime, Pointstamp};
 use nd_graph::Graph;
+use nd_summaries::{PathFault, Summaries, Summary};
 use std::alloc::{AllocError, Allocator, Global};
 use std::marker::Model;
 use std::sync::Arc as Shared;
 
-/// An accepted graph, and the order of its pointstamps (Naiad, SOSP 2013, section 2.3).
+/// An accepted graph, and the order of its pointstamps by the graph's timestamp order (Naiad, SOSP 2013, section 2.3).
 ///
-/// A table decides the order: for each pair of locations and each number of kept counters it has the
-/// least summary of the walks between them that keep this many. All copies share one table.
+/// All copies share one graph and one table of summaries, which decides the order.
 pub struct Paths<A: Allocator = Global> {
-    graph: Graph<A>,
-    table: Shared<Vec<Vec<Option<Summary>, A>, A>, A>,
+    summaries: Shared<Summaries<A>, A>,
 }
 
 impl<A: Allocator> Drop for Paths<A> {
     fn drop(self) {
-        let Paths { graph: _, table: _ } = self;
+        let Paths { summaries: _ } = self;
     }
 }
 
 impl<A: Allocator> Model for Paths<A> {
     ghost use Rattle.std.specs.Arc.{arc_value};
     ghost use Rattle.nd_graph.specs.Graph.{Dataflow};
-    ghost use Rattle.nd_paths.specs.Table.{IsTable};
 
     ghost Value = { Dataflow };
 
-    ghost view = { λ a. a.graph };
-
-    ghost invariant = { λ a. IsTable a.graph (arc_value a.table).items };
+    ghost view = { λ a. arc_value a.summaries };
 }
 
 impl<A: Allocator> Paths<A> {
@@ -56,19 +49,11 @@ impl<A: Allocator> Paths<A> {
         ensures accepted { IfOk result (λ _. IsAccepted graph.now) }
         ensures fault { IfErr result (λ e. IsFault graph.now e) }
     {
-        let rows = rows_of(alloc, graph)?;
-        let graph = graph.copy(alloc)?;
-        match Shared::new(alloc, rows) {
-            Ok(table) => Ok(Paths { graph, table }),
+        let summaries = Summaries::of(alloc, graph)?;
+        match Shared::new(alloc, summaries) {
+            Ok(summaries) => Ok(Paths { summaries }),
             Err(_) => Err(PathFault::Memory),
         }
-    }
-
-    // Returns the rows of the table.
-    fn rows(&self) -> &[Vec<Option<Summary>, A>]
-        ensures { IsTable self.now result.now }
-    {
-        &self.table
     }
 
     /// Returns the graph.
@@ -76,25 +61,23 @@ impl<A: Allocator> Paths<A> {
         ensures value { result.now ≡ self.now }
         ensures accepted { IsAccepted self.now }
     {
-        &self.graph
+        self.summaries.graph()
     }
 
     /// Returns an equal order, with the same table.
-    pub fn copy(&self, alloc: A) -> Result<Paths<A>, AllocError>
-    where
-        A: Copy,
+    pub fn copy(&self) -> Result<Paths<A>, AllocError>
         ensures { IfOk result (λ p. p ≡ self.now) }
     {
-        let graph = self.graph.copy(alloc)?;
-        let table = Shared::try_clone(&self.table)?;
-        Ok(Paths { graph, table })
+        let summaries = Shared::try_clone(&self.summaries)?;
+        Ok(Paths { summaries })
     }
 
     /// Returns whether `s` could result in `t`. It could not if one of them does not fit the graph.
     pub fn before(&self, s: &Pointstamp, t: &Pointstamp) -> bool
         ensures { IsTrue result ↔ CouldResultIn self.now s.now t.now }
     {
-        could_result_in(&self.graph, self.rows(), s, t)
+        self.summaries
+            .before(s.location, &s.time, t.location, &t.time)
     }
 
     /// Returns whether `s` could result in `t` and differs from it.
@@ -104,28 +87,42 @@ impl<A: Allocator> Paths<A> {
         s != t && self.before(s, t)
     }
 
-    /// Returns the least summaries of the walks between two locations: one for each number of counters that
-    /// some walk keeps, the greatest number first.
-    pub fn summaries(&self, from: usize, to: usize) -> ArrayVec<Summary, KEEPS>
+    /// Returns the minimal summaries of the walks between two locations: those that keep more counters first, then
+    /// by what they add, then by their constants lexicographically.
+    ///
+    /// In the lexicographic order there is one for each number of counters that some walk keeps.
+    pub fn summaries(&self, from: usize, to: usize) -> &[Summary]
         requires from { from < location_count self.now }
         requires to { to < location_count self.now }
-        ensures { AreLeastSummaries self.now from to result.items }
+        ensures minimal { AreMinimalSummaries self.now.order self.now from to result.now }
+        ensures least { self.now.order ≡ Lexicographic
+            → AreLeastSummaries self.now from to result.now }
     {
-        listed(&self.rows()[from], to)
+        self.summaries.summaries(from, to)
     }
 
-    /// Returns times into which walks from `point` to the location `to` turn its time, the least ones among them.
+    /// Returns times into which walks from `point` to the location `to` turn its time, the minimal ones among them.
     ///
-    /// Each time that `point` could result in at `to` has one of them at or before it. The list is empty if `point`
-    /// does not fit the graph, or if there is no location `to`.
-    pub fn reached(&self, point: &Pointstamp, to: usize) -> ArrayVec<ArrivalTime, KEEPS>
-        ensures each { All (TurnsInto self.now point.now to) result.items }
-        ensures least { CoverAll self.now point.now to result.items }
+    /// Each time that `point` could result in at `to` has one of them at or before it. The list is empty, and takes no
+    /// memory, if `point` does not fit the graph, if there is no location `to`, or if no walk leads there.
+    pub fn reached(
+        &self,
+        alloc: A,
+        point: &Pointstamp,
+        to: usize,
+    ) -> Result<Vec<ArrivalTime, A>, AllocError>
+        ensures each { IfOk result (λ v. All (TurnsInto self.now point.now to) v.items) }
+        ensures least { IfOk result (λ v. CoverAll self.now point.now to v.items) }
     {
-        if !point.fits(&self.graph) || to >= self.graph.location_count() {
-            return ArrayVec::new();
+        let mut times = Vec::new(alloc);
+        let graph = self.graph();
+        if !point.fits(graph) || to >= graph.location_count() {
+            return Ok(times);
         }
-        turned_by(&self.rows()[point.location], to, &point.time)
+        for summary in self.summaries(point.location, to) {
+            times.push(ArrivalTime::turned(summary, &point.time))?;
+        }
+        Ok(times)
     }
 
     /// Returns whether some walk leads from one location to another.
@@ -134,7 +131,7 @@ impl<A: Allocator> Paths<A> {
         requires to { to < location_count self.now }
         ensures { IsTrue result ↔ ((walk : List Arc) × IsWalk self.now from walk to) }
     {
-        holds_any(&self.rows()[from], to)
+        self.summaries.leads(from, to)
     }
 
     /// States that the order is a partial order, and that among finitely many pointstamps there is one with
@@ -150,7 +147,7 @@ impl<A: Allocator> Paths<A> {
         ensures minimal { (p : Pointstamp) (ps : List Pointstamp)
             → (m : Pointstamp) × IsMinimalAmong self.now (p ∷ ps) m }
     {
-        let _ = self.rows();
+        let _ = self.graph();
     }
 
     /// States that a pointstamp could result in each time into which a walk turns its own, at the end of
@@ -158,7 +155,7 @@ impl<A: Allocator> Paths<A> {
     pub fn walks_lead_on(&self)
         ensures { WalksLeadOn self.now }
     {
-        let _ = self.rows();
+        let _ = self.graph();
     }
 
     /// States that of two pointstamps the first is strictly before the second, or it is not.
@@ -166,30 +163,6 @@ impl<A: Allocator> Paths<A> {
         ensures { (s t : Pointstamp)
             → IsStrictlyBefore self.now s t ⊎ (IsStrictlyBefore self.now s t → ⊥) }
     {
-        let _ = self.rows();
+        let _ = self.graph();
     }
-}
-
-// Returns whether `s` could result in `t`, by the table of the graph.
-fn could_result_in<A: Allocator>(
-    graph: &Graph<A>,
-    rows: &[Vec<Option<Summary>, A>],
-    s: &Pointstamp,
-    t: &Pointstamp,
-) -> bool
-    requires { IsTable graph.now rows.now }
-    ensures { IsTrue result ↔ CouldResultIn graph.now s.now t.now }
-{
-    if t.time.epoch() < s.time.epoch() {
-        return false;
-    }
-    if !s.fits(graph) || !t.fits(graph) {
-        return false;
-    }
-    leads_among(
-        &rows[s.location],
-        t.location,
-        s.time.counters(),
-        t.time.counters(),
-    )
 }

@@ -11,7 +11,8 @@ use Rattle.nd_graph.specs.declared.graph.Arc.{Arc}
 use Rattle.nd_graph.specs.declared.graph.Edge.{Edge}
 use Rattle.nd_graph.specs.declared.graph.Vertex.{Vertex}
 use Rattle.nd_graph.specs.Graph.{Dataflow, LeadsTo, ArcAgrees, arcs, arcs_from, depths, acted, action_at, depth_past_vertex}
-use Rattle.nd_paths.specs.Order.{HasDepth, Fits, CouldResultIn, IsStrictlyBefore, IsAccepted, IsWalk}
+use Rattle.nd_paths.specs.Order.{Fits, CouldResultIn, IsStrictlyBefore, IsAccepted}
+use Rattle.nd_summaries.specs.Walk.{HasDepth, IsWalk}
 use Rattle.nd_paths.specs.declared.point.Pointstamp.{Pointstamp}
 use Rattle.std.proofs.lemmas.Option.{slice_get_within, slice_get-get_or, get_or_from_slice_get}
 use Rattle.nd_protocol.specs.Steps.{target_of, point_at}

@@ -10,7 +10,7 @@ use Rattle.nd_graph.specs.declared.fault.GraphFault.TheVariants.{BadPort, DepthM
 use Rattle.nd_graph.specs.declared.graph.Vertex.{Vertex}
 use Rattle.nd_graph.specs.Graph.{Dataflow, depth_past_vertex, op_at, location_count}
 use Rattle.nd_graph.specs.Checked.{has_bad_port, is_misplaced, is_misplaced_at, misses_depth, has_depth_mismatch, is_too_large, is_too_deep, leads_too_deep, fault_of, IsFaultless}
-use Rattle.nd_paths.specs.Order.{HasDepth}
+use Rattle.nd_summaries.specs.Walk.{HasDepth}
 use Rattle.nd_time.specs.Limits.{max_depth, max_locations}
 use Rattle.std.proofs.lemmas.Bool.{or_parts}
 

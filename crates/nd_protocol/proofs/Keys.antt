@@ -14,7 +14,8 @@ use Rattle.nd_graph.specs.declared.op.Op.TheVariants.{Input, Sum, Distinct, Sink
 use Rattle.nd_graph.specs.declared.op.Route.TheVariants.{Local}
 use Rattle.nd_graph.specs.declared.graph.Edge.{Edge}
 use Rattle.nd_graph.specs.Graph.{Dataflow, depths, depth_past_vertex, op_at}
-use Rattle.nd_paths.specs.Order.{Fits, HasDepth}
+use Rattle.nd_paths.specs.Order.{Fits}
+use Rattle.nd_summaries.specs.Walk.{HasDepth}
 use Rattle.nd_paths.specs.Point.{point_total, point_exact}
 use Rattle.nd_paths.specs.declared.point.Pointstamp.{Pointstamp}
 use Rattle.nd_protocol.proofs.Arcs.{depth_within}

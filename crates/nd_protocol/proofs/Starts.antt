@@ -16,7 +16,8 @@ use Rattle.nd_graph.specs.Graph.{Dataflow, depth_past_vertex, op_at, location_co
 use Rattle.nd_graph.specs.Operators.{facts}
 use Rattle.nd_graph.specs.Checked.{is_input, IsFaultless}
 use Rattle.nd_map.specs.Counts.{none as no_counts, naturals, integers, at-none as no_number, at as count_at}
-use Rattle.nd_paths.specs.Order.{HasDepth, IsStrictlyBefore}
+use Rattle.nd_paths.specs.Order.{IsStrictlyBefore}
+use Rattle.nd_summaries.specs.Walk.{HasDepth}
 use Rattle.nd_paths.specs.Point.{point_cmp, point_total, point_exact}
 use Rattle.nd_paths.specs.declared.point.Pointstamp.{Pointstamp}
 use Rattle.nd_delta.specs.Delta.{DeltaValue, none, at, at-none, is_point}

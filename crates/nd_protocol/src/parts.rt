@@ -99,7 +99,7 @@ impl<A: Allocator + Copy> Parts<A> {
         ensures { IfOk result (λ c. c ≡ self.now) }
     {
         Ok(Parts {
-            paths: self.paths.copy(alloc)?,
+            paths: self.paths.copy()?,
             processors: copied_processors(alloc, &self.processors)?,
             views: copied_views(alloc, &self.views)?,
             mesh: self.mesh.copy(alloc)?,

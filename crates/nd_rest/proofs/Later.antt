@@ -16,7 +16,8 @@ use Rattle.nd_graph.specs.declared.graph.Arc.{Arc}
 use Rattle.nd_graph.specs.declared.graph.Edge.{Edge}
 use Rattle.nd_graph.specs.declared.graph.Vertex.{Vertex}
 use Rattle.nd_graph.specs.Graph.{Dataflow, LeadsTo, ArcAgrees, arcs, arcs_from, depths, acted, action_at, action_of, op_at, depth_past_vertex}
-use Rattle.nd_paths.specs.Order.{HasDepth, Fits, IsStrictlyBefore, IsWalk}
+use Rattle.nd_paths.specs.Order.{Fits, IsStrictlyBefore}
+use Rattle.nd_summaries.specs.Walk.{HasDepth, IsWalk}
 use Rattle.nd_paths.specs.Point.{point_exact}
 use Rattle.nd_paths.specs.declared.point.Pointstamp.{Pointstamp}
 use Rattle.nd_map.specs.Counts.{added}

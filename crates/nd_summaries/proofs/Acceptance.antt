@@ -9,10 +9,10 @@ use Rattle.nd_graph.specs.declared.op.Action.{Action}
 use Rattle.nd_graph.specs.declared.op.Action.TheVariants.{Identity, Ingress, Egress, Feedback}
 use Rattle.nd_graph.specs.declared.graph.Arc.{Arc}
 use Rattle.nd_graph.specs.Graph.{Dataflow, depths}
-use Rattle.nd_summaries.specs.declared.order.TimeOrder.{TimeOrder}
+use Rattle.nd_time.specs.declared.order.TimeOrder.{TimeOrder}
 use Rattle.nd_summaries.specs.declared.summary.Summary.{Summary}
-use Rattle.nd_summaries.specs.Order.{AreAtMost}
-use Rattle.nd_summaries.specs.Walk.{FailsAt, IsWalk, PassesFeedback, TurnsBack, effect, least_depth}
+use Rattle.nd_time.specs.Order.{AreAtMost}
+use Rattle.nd_summaries.specs.Walk.{FailsBy, IsWalk, PassesFeedback, TurnsBack, effect, least_depth}
 use Rattle.nd_summaries.specs.Summary.{raised, applied}
 use Rattle.nd_summaries.specs.Steps.{summary_of, identity, then_act, step, after}
 use Rattle.nd_summaries.proofs.Orders.{smaller_irrefl, smaller_front, then_at, order_refl, order_lexical}
@@ -171,7 +171,7 @@ module _ (o : TimeOrder) (g : Dataflow) (agree : DepthsAgree g) (l : ℕ) (x : A
         λ none. turns_back o g agree l x w h (none_adds g agree d (x ∷ w) l l (identity d) h f (λ p. none (subst (PassesFeedback g (x ∷ w)) kept p)) (λ _. refl)),
       )
 
-pub fails_alike : (o u : TimeOrder) (g : Dataflow) (l : ℕ) → DepthsAgree g → FailsAt o g l → FailsAt u g l
+pub fails_alike : (o u : TimeOrder) (g : Dataflow) (l : ℕ) → DepthsAgree g → FailsBy o g l → FailsBy u g l
 fails_alike o u g l agree f =
     let none = adds_nothing o g agree l f.arc f.walk f.closed f.back in
     record { arc = f.arc; walk = f.walk; closed = f.closed; back = turns_back u g agree l f.arc f.walk f.closed none }

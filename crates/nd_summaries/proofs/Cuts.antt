@@ -15,10 +15,10 @@ use Rattle.nd_graph.specs.declared.op.Action.{Action}
 use Rattle.nd_graph.specs.declared.op.Action.TheVariants.{Identity, Ingress, Egress, Feedback}
 use Rattle.nd_graph.specs.declared.graph.Arc.{Arc}
 use Rattle.nd_graph.specs.Graph.{ArcAgrees, Dataflow, LeadsTo, arcs, depths, location_count}
-use Rattle.nd_summaries.specs.declared.order.TimeOrder.{TimeOrder}
-use Rattle.nd_summaries.specs.declared.order.TimeOrder.TheVariants.{Product}
+use Rattle.nd_time.specs.declared.order.TimeOrder.{TimeOrder}
+use Rattle.nd_time.specs.declared.order.TimeOrder.TheVariants.{Product}
 use Rattle.nd_summaries.specs.declared.summary.Summary.{Summary}
-use Rattle.nd_summaries.specs.Order.{IsEachAtMost}
+use Rattle.nd_time.specs.Order.{IsEachAtMost}
 use Rattle.nd_summaries.specs.Walk.{IsWalk, effect, least_depth}
 use Rattle.nd_summaries.specs.Summary.{raised, applied, AtMost}
 use Rattle.nd_summaries.specs.Steps.{identity, keeps, then_act, step, after, summary_of}

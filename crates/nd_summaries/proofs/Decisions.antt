@@ -6,10 +6,10 @@ use Rattle.std.proofs.lemmas.List.Elements.{All-contains, Contains-push_cases}
 use Rattle.nd_time.specs.Time.{Time}
 use Rattle.nd_graph.specs.declared.graph.Arc.{Arc}
 use Rattle.nd_graph.specs.Graph.{Dataflow, depths}
-use Rattle.nd_summaries.specs.declared.order.TimeOrder.{TimeOrder}
+use Rattle.nd_time.specs.declared.order.TimeOrder.{TimeOrder}
 use Rattle.nd_summaries.specs.declared.summary.Summary.{Summary}
-use Rattle.nd_summaries.specs.Order.{AreAtMost}
-use Rattle.nd_summaries.specs.Walk.{CouldResultIn, HasDepth, IsWalk, effect}
+use Rattle.nd_time.specs.Order.{AreAtMost}
+use Rattle.nd_summaries.specs.Walk.{LeadsBefore, HasDepth, IsWalk, effect}
 use Rattle.nd_summaries.specs.Summary.{applied, AreMinimalSummaries, IsMinimalSummary}
 use Rattle.nd_summaries.specs.Steps.{identity, summary_of}
 use Rattle.nd_summaries.specs.Table.{SomeLeads, Fit}
@@ -29,7 +29,7 @@ module _ (o : TimeOrder) (g : Dataflow) (agree : DepthsAgree g) (a b : ℕ) (lis
       let f = subst (IsFor (slice_index (depths g) a) (slice_index (depths g) b)) (sym whole) (IsFor-walk g m.walk a b agree m.leads) in
       (omega (arith, f.kept, is), f.depth ∙ sym is')
 
-  pub could_from_leads : (s t : Time) → HasDepth g a (length s.counters) → HasDepth g b (length t.counters) → s.epoch ≤ t.epoch → SomeLeads o list s.counters t.counters → CouldResultIn o g a s b t
+  pub could_from_leads : (s t : Time) → HasDepth g a (length s.counters) → HasDepth g b (length t.counters) → s.epoch ≤ t.epoch → SomeLeads o list s.counters t.counters → LeadsBefore o g a s b t
   could_from_leads s t f f' epochs (u, k, less) =
       let c : List ℕ = s.counters in
       let m = All-contains (IsMinimalSummary o g a b) list u h.each k in
@@ -49,7 +49,7 @@ module _ (o : TimeOrder) (g : Dataflow) (agree : DepthsAgree g) (a b : ℕ) (lis
         };
       }
 
-  pub leads_from_could : (s t : Time) → CouldResultIn o g a s b t → SomeLeads o list s.counters t.counters
+  pub leads_from_could : (s t : Time) → LeadsBefore o g a s b t → SomeLeads o list s.counters t.counters
   leads_from_could s t could =
       let c : List ℕ = s.counters in
       let w : List Arc = could.walk in

@@ -8,9 +8,9 @@ use Rattle.nd_graph.specs.declared.op.Action.TheVariants.{Identity, Ingress, Egr
 use Rattle.nd_graph.specs.declared.graph.Arc.{Arc}
 use Rattle.nd_graph.specs.Graph.{LeadsTo, acted}
 use Rattle.nd_summaries.specs.declared.summary.Summary.{Summary}
-use Rattle.nd_summaries.specs.declared.order.TimeOrder.{TimeOrder}
-use Rattle.nd_summaries.specs.declared.order.TimeOrder.TheVariants.{Lexicographic, Product}
-use Rattle.nd_summaries.specs.Order.{AreAtMost, IsEachAtMost}
+use Rattle.nd_time.specs.declared.order.TimeOrder.{TimeOrder}
+use Rattle.nd_time.specs.declared.order.TimeOrder.TheVariants.{Lexicographic, Product}
+use Rattle.nd_time.specs.Order.{AreAtMost, IsEachAtMost}
 use Rattle.nd_summaries.specs.Walk.{effect}
 use Rattle.nd_summaries.specs.Summary.{raised, applied, AddsAtMost, AtMost}
 use Rattle.nd_summaries.specs.Steps.{identity, then_act, step, after}

@@ -5,9 +5,9 @@ use Rattle.std.proofs.lemmas.List.{get_or_default, take_more}
 use Rattle.std.proofs.lemmas.List.Elements.{Contains-push_cases}
 use Rattle.nd_graph.specs.declared.graph.Arc.{Arc}
 use Rattle.nd_graph.specs.Graph.{Dataflow, arcs, depths}
-use Rattle.nd_summaries.specs.declared.order.TimeOrder.{TimeOrder}
+use Rattle.nd_time.specs.declared.order.TimeOrder.{TimeOrder}
 use Rattle.nd_summaries.specs.declared.summary.Summary.{Summary}
-use Rattle.nd_summaries.specs.Walk.{FailsAt, IsAccepted, IsWalk}
+use Rattle.nd_summaries.specs.Walk.{FailsBy, IsAcceptedBy, IsWalk}
 use Rattle.nd_summaries.specs.Steps.{identity, step, after, summary_of}
 use Rattle.nd_summaries.specs.Row.{listed, Closes, IsRow, ShowsFail}
 use Rattle.nd_summaries.proofs.Effects.{AtMost-step, AtMost-add, after-append}
@@ -16,7 +16,7 @@ use Rattle.nd_summaries.proofs.Cuts.{end_of, walk_front, walk_back, last_arc}
 use Rattle.nd_summaries.proofs.Acceptance.{adds_nothing, turns_back}
 
 module _ (o : TimeOrder) (g : Dataflow) (agree : DepthsAgree g) (a : ℕ) (row : List (List Summary)) (h : IsRow o g a row) where
-  pub fails_shown : FailsAt o g a → ShowsFail (arcs g) a row
+  pub fails_shown : FailsBy o g a → ShowsFail (arcs g) a row
   fails_shown fails =
       let i : Summary = identity (slice_index (depths g) a) in
       let x : Arc = fails.arc in
@@ -33,7 +33,7 @@ module _ (o : TimeOrder) (g : Dataflow) (agree : DepthsAgree g) (a : ℕ) (row :
       let zero' : (step y.action (after v i)).add ≡ 0 = last ∙ (all ∙ none) in
       (y, end.0, end.2, (u, subst (λ b. Contains (listed row b) u) (sym end.1) k, omega (arith, next, zero')))
 
-  pub shown_fails : ShowsFail (arcs g) a row → FailsAt o g a
+  pub shown_fails : ShowsFail (arcs g) a row → FailsBy o g a
   shown_fails (x, in', to, (s, k, z)) =
       let (w, walk, is) = h.walks x.from s k in
       let i : Summary = identity (slice_index (depths g) a) in
@@ -41,11 +41,11 @@ module _ (o : TimeOrder) (g : Dataflow) (agree : DepthsAgree g) (a : ℕ) (row :
       let none : (after (w ++ (x ∷ [])) i).add ≡ 0 = ap (λ t. t.add) (after-append w (x ∷ []) i) ∙ ap (λ t. (step x.action t).add) (sym is) ∙ z in
       fails_from_list (w ++ (x ∷ [])) (omega (arith, length-append w (x ∷ []))) closed none
     where
-      fails_from_list : (w : List Arc) → 0 < length w → IsWalk g a w a → (summary_of g a w).add ≡ 0 → FailsAt o g a
+      fails_from_list : (w : List Arc) → 0 < length w → IsWalk g a w a → (summary_of g a w).add ≡ 0 → FailsBy o g a
       fails_from_list [] k walk z = absurd (omega arith)
       fails_from_list (y ∷ w) k walk z = record { arc = y; walk = w; closed = walk; back = turns_back o g agree a y w walk z }
 
-pub accepted_from_none : (o : TimeOrder) (g : Dataflow) → ((l : ℕ) → l < length (depths g) → FailsAt o g l → ⊥) → IsAccepted o g
+pub accepted_from_none : (o : TimeOrder) (g : Dataflow) → ((l : ℕ) → l < length (depths g) → FailsBy o g l → ⊥) → IsAcceptedBy o g
 accepted_from_none o g none = record { strict = λ l f. none l (depth_within g l (length f.back.counters) f.back.depth).0 f }
 
 -- ---- steps of the code

@@ -17,3 +17,4 @@ pub mod Minimal
 pub mod Decisions
 pub mod Sharing
 pub mod Made
+pub mod Algebra

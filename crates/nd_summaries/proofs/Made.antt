@@ -4,10 +4,10 @@ use Rattle.std.specs.Prelude.{All}
 use Rattle.std.proofs.lemmas.Bool.{cases_lt}
 use Rattle.std.proofs.lemmas.List.{get_or_append_left, get_or_default, get_or_push, length-map, length_push}
 use Rattle.nd_graph.specs.Graph.{Dataflow, depths, location_count}
-use Rattle.nd_summaries.specs.declared.order.TimeOrder.{TimeOrder}
-use Rattle.nd_summaries.specs.declared.order.TimeOrder.TheVariants.{Lexicographic}
+use Rattle.nd_time.specs.declared.order.TimeOrder.{TimeOrder}
+use Rattle.nd_time.specs.declared.order.TimeOrder.TheVariants.{Lexicographic}
 use Rattle.nd_summaries.specs.declared.summary.Summary.{Summary}
-use Rattle.nd_summaries.specs.Walk.{FailsAt}
+use Rattle.nd_summaries.specs.Walk.{FailsBy}
 use Rattle.nd_summaries.specs.Summary.{AreMinimalSummaries, AreLeastSummaries}
 use Rattle.nd_summaries.specs.Row.{IsRow, listed}
 use Rattle.nd_summaries.specs.Shared.{AreNumbers, Extends, IsIndexed, named}
@@ -22,7 +22,7 @@ pub record Made (o : TimeOrder) (g : Dataflow) (lists : List (List Summary)) (ro
   pub count : length rows ≡ n
   pub small : (a : ℕ) → a < n → All (λ k. k < length lists) (get_or rows a [])
   pub minimal : (a : ℕ) → a < n → IsRow o g a (named_row lists (get_or rows a []))
-  pub none : (a : ℕ) → a < n → FailsAt o g a → ⊥
+  pub none : (a : ℕ) → a < n → FailsBy o g a → ⊥
 
 one_more : {X : Type 0} (P : ℕ → X → Type 0) (xs : List X) (y d : X) (n : ℕ) → length xs ≡ n → ((a : ℕ) → a < n → P a (get_or xs a d)) → P n y → (a : ℕ) → a < n + 1 → P a (get_or (xs ++ (y ∷ [])) a d)
 one_more P xs y d n e h k a l =
@@ -34,7 +34,7 @@ one_more P xs y d n e h k a l =
           subst (λ m. P m (get_or (xs ++ (y ∷ [])) m d)) (sym same) (subst (λ v. P n v) (sym at) k)
     ]
 
-pub Made-more : (o : TimeOrder) (g : Dataflow) (old new : List (List Summary)) (rows rows' : List (List ℕ)) (numbers : List ℕ) (row : List (List Summary)) (n : ℕ) → Made o g old rows n → Extends old new → AreNumbers new numbers row → IsRow o g n row → (FailsAt o g n → ⊥) → rows' ≡ rows ++ (numbers ∷ []) → Made o g new rows' (n + 1)
+pub Made-more : (o : TimeOrder) (g : Dataflow) (old new : List (List Summary)) (rows rows' : List (List ℕ)) (numbers : List ℕ) (row : List (List Summary)) (n : ℕ) → Made o g old rows n → Extends old new → AreNumbers new numbers row → IsRow o g n row → (FailsBy o g n → ⊥) → rows' ≡ rows ++ (numbers ∷ []) → Made o g new rows' (n + 1)
 Made-more o g old new rows rows' numbers row n h x k r fine e =
     subst (λ rs. Made o g new rs (n + 1)) (sym e) (record {
       count = length_push rows numbers ∙ ap (λ m. m + 1) h.count;
@@ -42,7 +42,7 @@ Made-more o g old new rows rows' numbers row n h x k r fine e =
       minimal = one_more (λ a v. IsRow o g a (named_row new v)) rows numbers [] n h.count
           (λ a l. subst (IsRow o g a) (sym (named_row-on old new (get_or rows a []) x (h.small a l))) (h.minimal a l))
           (subst (IsRow o g n) k.names r);
-      none = λ a l f. elim (cases_lt a n) [ inl low ↦ h.none a low f | inr up ↦ (let same : a ≡ n = omega arith in fine (subst (λ m. FailsAt o g m) same f)) ];
+      none = λ a l f. elim (cases_lt a n) [ inl low ↦ h.none a low f | inr up ↦ (let same : a ≡ n = omega arith in fine (subst (λ m. FailsBy o g m) same f)) ];
     })
 
 pub Made-table : (o : TimeOrder) (g : Dataflow) (lists : List (List Summary)) (buckets rows : List (List ℕ)) (n : ℕ) → DepthsAgree g → n ≡ length (depths g) → IsIndexed lists buckets → Made o g lists rows n → IsTable o g lists rows

@@ -7,8 +7,8 @@ use Rattle.std.proofs.lemmas.Bool.Decides.{nat_tests}
 use Rattle.std.proofs.lemmas.Cmp.{tied_itself}
 use Rattle.std.proofs.lemmas.List.Elements.{Contains-get_or}
 use Rattle.nd_graph.specs.Graph.{Dataflow, depths}
-use Rattle.nd_summaries.specs.declared.order.TimeOrder.{TimeOrder}
-use Rattle.nd_summaries.specs.declared.order.TimeOrder.TheVariants.{Lexicographic}
+use Rattle.nd_time.specs.declared.order.TimeOrder.{TimeOrder}
+use Rattle.nd_time.specs.declared.order.TimeOrder.TheVariants.{Lexicographic}
 use Rattle.nd_summaries.specs.declared.summary.Summary.{Summary}
 use Rattle.nd_summaries.specs.Summary.{AddsAtMost, AtMost, IsListedBefore, listing_cmp, IsMinimalSummary, AreMinimalSummaries, IsLeastSummary, AreLeastSummaries}
 use Rattle.nd_summaries.specs.Steps.{summary_of}

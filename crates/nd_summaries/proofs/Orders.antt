@@ -6,9 +6,9 @@ use Rattle.nd_graph.specs.declared.op.Action.{Action}
 use Rattle.nd_graph.specs.declared.op.Action.TheVariants.{Identity, Ingress, Egress, Feedback}
 use Rattle.nd_graph.specs.declared.graph.Arc.{Arc}
 use Rattle.nd_graph.specs.Graph.{acted}
-use Rattle.nd_summaries.specs.declared.order.TimeOrder.{TimeOrder}
-use Rattle.nd_summaries.specs.declared.order.TimeOrder.TheVariants.{Lexicographic, Product}
-use Rattle.nd_summaries.specs.Order.{AreAtMost, IsEachAtMost}
+use Rattle.nd_time.specs.declared.order.TimeOrder.{TimeOrder}
+use Rattle.nd_time.specs.declared.order.TimeOrder.TheVariants.{Lexicographic, Product}
+use Rattle.nd_time.specs.Order.{AreAtMost, IsEachAtMost}
 use Rattle.nd_summaries.specs.Walk.{effect}
 
 -- ---- the first difference of two lists

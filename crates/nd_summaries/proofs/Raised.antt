@@ -4,7 +4,7 @@ use Rattle.std.proofs.lemmas.List.{append-nil, take_all}
 use Rattle.nd_time.specs.Time.{IsSmallerAtFirstDifference, egress_of, feedback_of}
 use Rattle.nd_summaries.specs.declared.summary.Summary.{Summary}
 use Rattle.nd_summaries.specs.Summary.{raised, applied}
-use Rattle.nd_summaries.specs.Order.{IsEachAtMost}
+use Rattle.nd_time.specs.Order.{IsEachAtMost}
 use Rattle.nd_summaries.proofs.Orders.{smaller_here, smaller_back}
 
 pub length-raised : (a : ℕ) (c : List ℕ) → length (raised a c) ≡ length c

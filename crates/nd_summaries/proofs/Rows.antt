@@ -11,7 +11,7 @@ use Rattle.nd_graph.specs.declared.graph.Arc.{Arc}
 use Rattle.nd_graph.specs.declared.op.Action.{Action}
 use Rattle.nd_graph.specs.declared.op.Action.TheVariants.{Identity, Ingress, Egress, Feedback}
 use Rattle.nd_graph.specs.Graph.{ArcAgrees, Dataflow, LeadsTo, arcs, depths}
-use Rattle.nd_summaries.specs.declared.order.TimeOrder.{TimeOrder}
+use Rattle.nd_time.specs.declared.order.TimeOrder.{TimeOrder}
 use Rattle.nd_summaries.specs.declared.summary.Summary.{Summary}
 use Rattle.nd_summaries.specs.declared.row.Reached.{Reached}
 use Rattle.nd_summaries.specs.Walk.{IsWalk}

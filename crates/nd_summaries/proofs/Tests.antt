@@ -5,10 +5,10 @@ use Rattle.std.specs.Cmp.Lexicographic.{slice_cmp}
 use Rattle.std.proofs.lemmas.Bool.{cases_lt}
 use Rattle.std.proofs.lemmas.Bool.Decides.{nat_tests, eqb_tells, leb_tells}
 use Rattle.nd_time.specs.Lexical.{at_most as lexically_at_most, compares}
-use Rattle.nd_summaries.specs.declared.order.TimeOrder.{TimeOrder}
-use Rattle.nd_summaries.specs.declared.order.TimeOrder.TheVariants.{Lexicographic, Product}
+use Rattle.nd_time.specs.declared.order.TimeOrder.{TimeOrder}
+use Rattle.nd_time.specs.declared.order.TimeOrder.TheVariants.{Lexicographic, Product}
 use Rattle.nd_summaries.specs.declared.summary.Summary.{Summary}
-use Rattle.nd_summaries.specs.Order.{IsEachAtMost}
+use Rattle.nd_time.specs.Order.{IsEachAtMost}
 use Rattle.nd_summaries.specs.Summary.{AddsAtMost, AtMost}
 use Rattle.nd_summaries.specs.Steps.{at_most, adds_at_most, each_at_most}
 

@@ -7,8 +7,8 @@ use Rattle.std.proofs.lemmas.List.Elements.{AllZip-get_or}
 use Rattle.nd_graph.specs.declared.graph.Arc.{Arc}
 use Rattle.nd_graph.specs.Graph.{Dataflow, depths}
 use Rattle.nd_summaries.specs.declared.summary.Summary.{Summary}
-use Rattle.nd_summaries.specs.declared.order.TimeOrder.TheVariants.{Product}
-use Rattle.nd_summaries.specs.Order.{IsEachAtMost}
+use Rattle.nd_time.specs.declared.order.TimeOrder.TheVariants.{Product}
+use Rattle.nd_time.specs.Order.{IsEachAtMost}
 use Rattle.nd_summaries.specs.Walk.{IsWalk}
 use Rattle.nd_summaries.specs.Summary.{raised, applied, IsSummaryOf, AtMost}
 use Rattle.nd_summaries.specs.Steps.{summary_of}

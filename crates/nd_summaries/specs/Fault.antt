@@ -1,12 +1,11 @@
 -- Why a graph has no order.
 use Rattle.std.specs.Prelude.{ℕ, ◌<◌}
 use Rattle.nd_graph.specs.Graph.{Dataflow}
-use Rattle.nd_summaries.specs.declared.order.TimeOrder.{TimeOrder}
-use Rattle.nd_summaries.specs.declared.accept.OrderFault.{OrderFault}
-use Rattle.nd_summaries.specs.declared.accept.OrderFault.TheVariants.{LoopNotStrict, Memory}
-use Rattle.nd_summaries.specs.Walk.{FailsAt}
+use Rattle.nd_summaries.specs.declared.accept.PathFault.{PathFault}
+use Rattle.nd_summaries.specs.declared.accept.PathFault.TheVariants.{LoopNotStrict, Memory}
+use Rattle.nd_summaries.specs.Walk.{FailsBy}
 
 -- the least location from which a closed walk fails, or out of memory
-abbrev pub IsFault : TimeOrder → Dataflow → OrderFault → Type 0
-IsFault order g (LoopNotStrict l) = FailsAt order g l × ((k : ℕ) → k < l → FailsAt order g k → ⊥)
-IsFault order g Memory = Unit {0}
+abbrev pub IsFault : Dataflow → PathFault → Type 0
+IsFault g (LoopNotStrict l) = FailsBy g.order g l × ((k : ℕ) → k < l → FailsBy g.order g k → ⊥)
+IsFault g Memory = Unit {0}

@@ -1,4 +1,3 @@
-pub mod Order
 pub mod Walk
 pub mod Summary
 pub mod Steps

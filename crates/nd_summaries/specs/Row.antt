@@ -6,7 +6,7 @@ use Rattle.nd_time.specs.Limits.{max_depth, max_counter}
 use Rattle.nd_graph.specs.declared.graph.Arc.{Arc}
 use Rattle.nd_graph.specs.declared.op.Action.TheVariants.{Ingress}
 use Rattle.nd_graph.specs.Graph.{Dataflow, arcs, depths}
-use Rattle.nd_summaries.specs.declared.order.TimeOrder.{TimeOrder}
+use Rattle.nd_time.specs.declared.order.TimeOrder.{TimeOrder}
 use Rattle.nd_summaries.specs.declared.summary.Summary.{Summary}
 use Rattle.nd_summaries.specs.declared.row.Reached.{Reached}
 use Rattle.nd_summaries.specs.Walk.{IsWalk}

@@ -7,8 +7,8 @@ use Rattle.nd_graph.specs.declared.op.Action.{Action}
 use Rattle.nd_graph.specs.declared.op.Action.TheVariants.{Identity, Ingress, Egress, Feedback}
 use Rattle.nd_graph.specs.declared.graph.Arc.{Arc}
 use Rattle.nd_graph.specs.Graph.{Dataflow, acted, depths}
-use Rattle.nd_summaries.specs.declared.order.TimeOrder.{TimeOrder}
-use Rattle.nd_summaries.specs.declared.order.TimeOrder.TheVariants.{Lexicographic, Product}
+use Rattle.nd_time.specs.declared.order.TimeOrder.{TimeOrder}
+use Rattle.nd_time.specs.declared.order.TimeOrder.TheVariants.{Lexicographic, Product}
 use Rattle.nd_summaries.specs.declared.summary.Summary.{Summary}
 
 -- a walk keeps 0 to max_depth counters

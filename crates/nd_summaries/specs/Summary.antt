@@ -1,17 +1,18 @@
 -- Path summaries: what walks do to loop counters, in one step.
-use Rattle.std.specs.Prelude.{◌≡◌, ◌⊎◌, ℕ, ◌+◌, ◌<◌, ◌≤◌, All, Contains, List, [], ◌∷◌, ◌++◌, length, take, slice_index_or}
+use Rattle.std.specs.Prelude.{◌≡◌, ◌⊎◌, ℕ, ◌+◌, ◌-◌, ◌<◌, ◌≤◌, All, Contains, List, [], ◌∷◌, ◌++◌, length, take, cond, nat_lt, nat_eq, slice_index_or}
 use Rattle.std.specs.List.{AllPairs}
 use Rattle.std.specs.declared.cmp.Ordering.{Ordering}
 use Rattle.std.specs.declared.cmp.Ordering.TheVariants.{Less}
 use Rattle.std.specs.Ordering.{nat_cmp, ordering_then}
 use Rattle.std.specs.Cmp.Lexicographic.{slice_cmp}
+use Rattle.nd_time.specs.Limits.{max_depth, max_counter}
 use Rattle.nd_time.specs.Time.{IsLexicallyAtMost}
 use Rattle.nd_graph.specs.declared.graph.Arc.{Arc}
 use Rattle.nd_graph.specs.Graph.{Dataflow}
-use Rattle.nd_summaries.specs.declared.order.TimeOrder.{TimeOrder}
-use Rattle.nd_summaries.specs.declared.order.TimeOrder.TheVariants.{Lexicographic, Product}
+use Rattle.nd_time.specs.declared.order.TimeOrder.{TimeOrder}
+use Rattle.nd_time.specs.declared.order.TimeOrder.TheVariants.{Lexicographic, Product}
 use Rattle.nd_summaries.specs.declared.summary.Summary.{Summary}
-use Rattle.nd_summaries.specs.Order.{IsEachAtMost}
+use Rattle.nd_time.specs.Order.{IsEachAtMost}
 use Rattle.nd_summaries.specs.Walk.{IsWalk, effect, HasDepth}
 
 -- the list with a added to its last number
@@ -23,6 +24,23 @@ raised a (x ∷ y ∷ rest) = x ∷ raised a (y ∷ rest)
 -- the counters after a summary: it keeps the outermost ones, adds to the last of those, and appends its constants
 abbrev pub applied : Summary → List ℕ → List ℕ
 applied s counters = raised s.add (take s.keep counters) ++ s.constants
+
+-- how many counters a summary leaves
+abbrev pub left_by : Summary → ℕ
+left_by s = s.keep + length s.constants
+
+-- the summary of a walk with summary s, followed by a walk with summary t
+abbrev pub composed : Summary → Summary → Summary
+composed s t =
+    cond (nat_lt s.keep t.keep)
+    (record { keep = s.keep; add = s.add; constants = applied (record { keep = t.keep - s.keep; add = t.add; constants = t.constants }) s.constants })
+    (record { keep = t.keep; add = cond (nat_eq s.keep t.keep) (s.add + t.add) t.add; constants = t.constants })
+
+-- no number is above the limit of a counter, and at most max_depth counters are left
+pub record IsInLimits (s : Summary) : Type 0 where
+  pub add : s.add ≤ max_counter
+  pub constants : All (λ x. x ≤ max_counter) s.constants
+  pub depth : left_by s ≤ max_depth
 
 -- s is the summary of a walk: it does to all counters of the first location's depth what the walk does
 pub record IsSummaryOf (g : Dataflow) (from : ℕ) (walk : List Arc) (s : Summary) : Type 0 where

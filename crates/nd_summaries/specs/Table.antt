@@ -2,21 +2,13 @@
 use Rattle.std.specs.Prelude.{◌≡◌, ◌≢◌, ℕ, ◌+◌, ◌<◌, ◌≤◌, All, Contains, List, [], length, map, slice_index_or}
 use Rattle.std.specs.List.{AllPairs}
 use Rattle.nd_graph.specs.Graph.{ArcAgrees, Dataflow, arcs, depths}
-use Rattle.nd_summaries.specs.declared.order.TimeOrder.{TimeOrder}
+use Rattle.nd_time.specs.declared.order.TimeOrder.{TimeOrder}
 use Rattle.nd_summaries.specs.declared.summary.Summary.{Summary}
-use Rattle.nd_summaries.specs.Order.{AreAtMost}
-use Rattle.nd_summaries.specs.Walk.{IsAccepted}
+use Rattle.nd_time.specs.Order.{AreAtMost}
+use Rattle.nd_summaries.specs.Walk.{IsAcceptedBy}
 use Rattle.nd_summaries.specs.Summary.{applied}
 use Rattle.nd_summaries.specs.Row.{IsRow}
 use Rattle.nd_summaries.specs.Shared.{named}
-
--- a graph and the order of its timestamps
-pub record Ordered : Type 0 where
-  pub graph : Dataflow
-  pub order : TimeOrder
-
-abbrev pub ordered : Dataflow → TimeOrder → Ordered
-ordered g o = record { graph = g; order = o }
 
 -- the row of lists that numbers name
 abbrev pub named_row : List (List Summary) → List ℕ → List (List Summary)
@@ -26,7 +18,7 @@ named_row lists numbers = map (λ n. named lists n) numbers
 -- its walks
 pub record IsTable (o : TimeOrder) (g : Dataflow) (lists : List (List Summary)) (rows : List (List ℕ)) : Type 0 where
   pub agree : All (ArcAgrees (depths g)) (arcs g)
-  pub accepted : IsAccepted o g
+  pub accepted : IsAcceptedBy o g
   pub count : length rows ≡ length (depths g)
   pub small : (a : ℕ) → a < length (depths g) → All (λ n. n < length lists) (slice_index_or rows a [])
   pub minimal : (a : ℕ) → a < length (depths g) → IsRow o g a (named_row lists (slice_index_or rows a []))

@@ -5,8 +5,8 @@ use Rattle.nd_time.specs.Time.{Time}
 use Rattle.nd_graph.specs.declared.graph.Arc.{Arc}
 use Rattle.nd_graph.specs.declared.op.Action.TheVariants.{Feedback}
 use Rattle.nd_graph.specs.Graph.{Dataflow, arcs, acted, depths}
-use Rattle.nd_summaries.specs.declared.order.TimeOrder.{TimeOrder}
-use Rattle.nd_summaries.specs.Order.{AreAtMost, IsAtOrBeforeBy}
+use Rattle.nd_time.specs.declared.order.TimeOrder.{TimeOrder}
+use Rattle.nd_time.specs.Order.{AreAtMost, IsAtOrBeforeBy}
 
 -- a list of arcs that leads from one location to another; each arc begins where the arc before it ends
 abbrev pub IsWalk : Dataflow → ℕ → List Arc → ℕ → Type 0
@@ -23,7 +23,7 @@ abbrev pub HasDepth : Dataflow → ℕ → ℕ → Type 0
 HasDepth g l depth = slice_get (depths g) l ≡ Some depth
 
 -- the time s at one location could result in the time t at another: some walk turns s into a time at or before t
-pub record CouldResultIn (order : TimeOrder) (g : Dataflow) (from : ℕ) (s : Time) (to : ℕ) (t : Time) : Type 0 where
+pub record LeadsBefore (order : TimeOrder) (g : Dataflow) (from : ℕ) (s : Time) (to : ℕ) (t : Time) : Type 0 where
   pub depth_s : HasDepth g from (length s.counters)
   pub depth_t : HasDepth g to (length t.counters)
   pub walk : List Arc
@@ -39,15 +39,15 @@ pub record TurnsBack (order : TimeOrder) (g : Dataflow) (from : ℕ) (walk : Lis
   pub back : AreAtMost order (effect walk counters) counters
 
 -- some closed walk from the location l, which is not empty, turns a time of l's depth into one at or before it
-pub record FailsAt (order : TimeOrder) (g : Dataflow) (l : ℕ) : Type 0 where
+pub record FailsBy (order : TimeOrder) (g : Dataflow) (l : ℕ) : Type 0 where
   pub arc : Arc
   pub walk : List Arc
   pub closed : IsWalk g l (arc ∷ walk) l
   pub back : TurnsBack order g l (arc ∷ walk)
 
 -- no closed walk that is not empty turns a time of its depth into one at or before it; that the depths agree holds of each graph
-pub record IsAccepted (order : TimeOrder) (g : Dataflow) : Type 0 where
-  pub strict : (l : ℕ) → FailsAt order g l → ⊥
+pub record IsAcceptedBy (order : TimeOrder) (g : Dataflow) : Type 0 where
+  pub strict : (l : ℕ) → FailsBy order g l → ⊥
 
 -- the least depth of the locations on a walk
 abbrev pub least_depth : Dataflow → ℕ → List Arc → ℕ

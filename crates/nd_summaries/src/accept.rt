@@ -2,7 +2,7 @@
 ghost use Rattle.std.specs.Prelude.{◌≡◌, ◌<◌, ◌≤◌, MatchBool, length};
 ghost use Rattle.nd_graph.specs.Graph.{arcs as arcs_of, depths as depths_of};
 ghost use Rattle.nd_summaries.specs.Row.{listed, Closes, ShowsFail};
-ghost use Rattle.nd_summaries.specs.declared.accept.OrderFault.TheVariants.{Memory};
+ghost use Rattle.nd_summaries.specs.declared.accept.PathFault.TheVariants.{Memory};
 
 use crate::list::SummaryList;
 use nd_graph::{Arc, Graph};
@@ -11,7 +11,7 @@ use thiserror::Error;
 
 /// Why a graph is not accepted.
 #[derive(Clone, Copy, Debug, PartialEq, Eq, Drop, Error)]
-pub enum OrderFault {
+pub enum PathFault {
     /// A closed, non-empty walk from this location turns some time into one at or before it. No earlier location has
     /// such a walk.
     #[error("a loop through location {location} does not increase every time")]
@@ -21,11 +21,11 @@ pub enum OrderFault {
     Memory,
 }
 
-impl From<AllocError> for OrderFault {
+impl From<AllocError> for PathFault {
     ghost from_gives = { λ _ e. e ≡ Memory };
 
     fn from(_error: AllocError) -> Self {
-        OrderFault::Memory
+        PathFault::Memory
     }
 }
 

@@ -2,9 +2,9 @@
 ghost use Rattle.std.specs.Prelude.{◌↔◌, ◌<◌, ℕ, List, ◌∷◌};
 ghost use Rattle.nd_graph.specs.declared.graph.Arc.{Arc as GraphArc};
 ghost use Rattle.nd_graph.specs.Graph.{location_count};
-ghost use Rattle.nd_summaries.specs.declared.order.TimeOrder.{TimeOrder};
+ghost use Rattle.nd_time.specs.declared.order.TimeOrder.{TimeOrder};
 ghost use Rattle.nd_summaries.specs.Laws.{HasShortWalk};
-ghost use Rattle.nd_summaries.specs.Walk.{IsWalk, TurnsBack, PassesFeedback, FailsAt, least_depth};
+ghost use Rattle.nd_summaries.specs.Walk.{IsWalk, TurnsBack, PassesFeedback, FailsBy, least_depth};
 
 use nd_graph::Graph;
 use std::alloc::Allocator;
@@ -16,8 +16,8 @@ pub fn closed_walks_fail_alike<A: Allocator>(graph: &Graph<A>)
         → IsWalk graph.now l (arc ∷ walk) l
         → TurnsBack order graph.now l (arc ∷ walk)
         ↔ (PassesFeedback graph.now (arc ∷ walk) (least_depth graph.now l (arc ∷ walk)) → ⊥) }
-    ensures alike { (order other : TimeOrder) (l : ℕ) → FailsAt order graph.now l
-        → FailsAt other graph.now l }
+    ensures alike { (order other : TimeOrder) (l : ℕ) → FailsBy order graph.now l
+        → FailsBy other graph.now l }
 {
     let _ = graph.all_arcs();
 }

@@ -2,10 +2,10 @@
 #![tactic(auto)]
 
 mod accept;
+mod compose;
 mod laws;
 mod list;
 mod numbers;
-mod order;
 mod outgoing;
 mod row;
 mod shared;
@@ -13,8 +13,7 @@ mod summaries;
 mod summary;
 mod table;
 
-pub use accept::OrderFault;
+pub use accept::PathFault;
 pub use laws::{closed_walks_fail_alike, short_walks_suffice};
-pub use order::TimeOrder;
 pub use summaries::Summaries;
 pub use summary::{Constants, Summary};

@@ -2,7 +2,8 @@
 ghost use Rattle.std.specs.Prelude.{◌≡◌, ◌↔◌, [], ◌++◌, IfOk, IsTrue};
 ghost use Rattle.nd_summaries.specs.Row.{IsCovered, listed_before, left_after, with_summary};
 
-use crate::{Summary, TimeOrder};
+use crate::Summary;
+use nd_time::TimeOrder;
 use std::alloc::{AllocError, Allocator, Global};
 use std::marker::Model;
 

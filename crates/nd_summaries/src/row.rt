@@ -7,7 +7,8 @@ ghost use Rattle.nd_summaries.specs.Row.{listed, CanFollow, Reaches, IsRound, Is
 
 use crate::list::SummaryList;
 use crate::outgoing::Outgoing;
-use crate::{Summary, TimeOrder};
+use crate::Summary;
+use nd_time::TimeOrder;
 use nd_graph::Graph;
 use nd_time::limits::MAX_DEPTH;
 use std::alloc::{AllocError, Allocator};

@@ -5,13 +5,13 @@ ghost use Rattle.nd_summaries.specs.Summary.{raised as raised_by};
 ghost use Rattle.nd_time.specs.Limits.{max_depth, max_counter};
 ghost use Rattle.std.specs.Ordering.{is_lt};
 ghost use Rattle.nd_time.specs.Time.{IsLexicallyAtMost};
-ghost use Rattle.nd_summaries.specs.Order.{AreAtMost, IsEachAtMost};
+ghost use Rattle.nd_time.specs.Order.{AreAtMost, IsEachAtMost};
 ghost use Rattle.nd_summaries.specs.Steps.{at_most, each_at_most};
 ghost use Rattle.nd_summaries.specs.Summary.{listing_cmp, AtMost};
 
-use crate::TimeOrder;
 use arrayvec::ArrayVec;
 use nd_graph::Action;
+use nd_time::TimeOrder;
 use nd_time::limits::MAX_DEPTH;
 use std::marker::Model;
 
@@ -222,8 +222,8 @@ impl Summary {
             .is_lt()
     }
 
-    // Returns the counters into which this summary turns `counters`. A `u64` holds every sum.
-    pub(crate) fn reached(&self, counters: &[u32]) -> ArrayVec<u64, MAX_DEPTH>
+    /// Returns the counters into which this summary turns `counters`. A `u64` holds every sum.
+    pub fn reached(&self, counters: &[u32]) -> ArrayVec<u64, MAX_DEPTH>
         requires keep { self.now.keep ≤ length counters.now }
         requires deep { self.now.keep + length self.now.constants ≤ max_depth }
         ensures { result.items ≡ applied self.now counters.now }

@@ -1,20 +1,20 @@
 //! The table of a graph, made row by row.
 ghost use Rattle.std.specs.Prelude.{◌≡◌, ◌+◌, ◌≤◌, ◌<◌, ◌↔◌, IsTrue, IfOk, IfErr, All, length};
-ghost use Rattle.nd_summaries.specs.Order.{AreAtMost};
+ghost use Rattle.nd_time.specs.Order.{AreAtMost};
 ghost use Rattle.nd_summaries.specs.Summary.{applied};
 ghost use Rattle.nd_summaries.specs.Walk.{HasDepth};
 ghost use Rattle.nd_summaries.specs.Fault.{IsFault};
 ghost use Rattle.nd_summaries.specs.Table.{IsTable, SomeLeads, Fit};
 
-use crate::accept::{OrderFault, shows_fail};
+use crate::accept::{PathFault, shows_fail};
 use crate::list::SummaryList;
 use crate::numbers::Numbers;
 use crate::outgoing::Outgoing;
 use crate::row::row_of;
 use crate::shared::Shared;
-use crate::{Summary, TimeOrder};
+use crate::Summary;
 use nd_graph::Graph;
-use nd_time::Timestamp;
+use nd_time::{TimeOrder, Timestamp};
 use std::alloc::{Allocator, Global};
 
 /// Lists of summaries, each different one once, and for each location a row with the numbers of its lists.
@@ -27,11 +27,11 @@ pub struct Table<A: Allocator = Global> {
 pub fn table_of<A: Allocator + Copy>(
     alloc: A,
     graph: &Graph<A>,
-    order: TimeOrder,
-) -> Result<Table<A>, OrderFault>
-    ensures table { IfOk result (λ t. IsTable order graph.now t.lists.items t.rows.items) }
-    ensures fault { IfErr result (λ e. IsFault order graph.now e) }
+) -> Result<Table<A>, PathFault>
+    ensures table { IfOk result (λ t. IsTable graph.now.order graph.now t.lists.items t.rows.items) }
+    ensures fault { IfErr result (λ e. IsFault graph.now e) }
 {
+    let order = graph.order();
     let depths = graph.depths();
     // The action of each arc agrees with the depths of its ends.
     let _ = graph.all_arcs();
@@ -41,12 +41,12 @@ pub fn table_of<A: Allocator + Copy>(
     for location in 0..depths.len() {
         let row = row_of(alloc, order, graph, &out, location)?;
         if shows_fail(&row, graph, location) {
-            return Err(OrderFault::LoopNotStrict { location });
+            return Err(PathFault::LoopNotStrict { location });
         }
         let numbers = shared.numbers(alloc, &row)?;
         match rows.push(numbers) {
             Ok(()) => {}
-            Err(_) => return Err(OrderFault::Memory),
+            Err(_) => return Err(PathFault::Memory),
         }
     }
     let lists = shared.into_lists();

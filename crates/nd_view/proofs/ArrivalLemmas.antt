@@ -5,7 +5,8 @@ use Rattle.std.proofs.lemmas.List.{get_or_default}
 use Rattle.std.proofs.lemmas.List.Sorted.{IsPermutation-sym, Contains-permutation}
 use Rattle.nd_time.specs.Time.{Time, IsAtOrBefore}
 use Rattle.nd_graph.specs.Graph.{Dataflow}
-use Rattle.nd_paths.specs.Order.{HasDepth, CouldResultIn}
+use Rattle.nd_paths.specs.Order.{CouldResultIn}
+use Rattle.nd_summaries.specs.Walk.{HasDepth}
 use Rattle.nd_paths.specs.Arrival.{TurnsInto, HasAtOrBefore, WalksLeadOn}
 use Rattle.nd_paths.specs.declared.point.Pointstamp.{Pointstamp}
 use Rattle.nd_delta.specs.Delta.{DeltaValue, at, entries}

@@ -6,7 +6,8 @@ use Rattle.nd_graph.specs.Graph.{Dataflow}
 use Rattle.nd_time.specs.Time.{IsLexicallyAtMost}
 use Rattle.nd_map.specs.Entries.{find-index}
 use Rattle.nd_map.specs.Listed.{IsListed}
-use Rattle.nd_paths.specs.Order.{HasDepth, IsWalk, effect, CouldResultIn, IsStrictlyBefore}
+use Rattle.nd_paths.specs.Order.{CouldResultIn, IsStrictlyBefore}
+use Rattle.nd_summaries.specs.Walk.{HasDepth, IsWalk, effect}
 use Rattle.nd_paths.specs.Point.{point_cmp, point_total}
 use Rattle.nd_paths.specs.declared.point.Pointstamp.{Pointstamp}
 use Rattle.nd_delta.specs.Delta.{DeltaValue, none, at, set, at-none, at-set_same, size-set, size-none}

@@ -5,7 +5,7 @@ use Rattle.std.specs.declared.cmp.Ordering.TheVariants.{Less}
 use Rattle.nd_time.specs.Time.{Time, IsAtOrBefore}
 use Rattle.nd_time.specs.Listing.{time_cmp}
 use Rattle.nd_graph.specs.Graph.{Dataflow}
-use Rattle.nd_paths.specs.Order.{HasDepth}
+use Rattle.nd_summaries.specs.Walk.{HasDepth}
 use Rattle.nd_paths.specs.Arrival.{TurnsInto, HasAtOrBefore, CoverAll}
 use Rattle.nd_paths.specs.declared.point.Pointstamp.{Pointstamp}
 use Rattle.nd_delta.specs.Delta.{DeltaValue, at}

@@ -3,7 +3,7 @@ use Rattle.std.specs.Prelude.{Contains}
 use Rattle.std.proofs.lemmas.List.{take_all}
 use Rattle.std.proofs.lemmas.List.Elements.{All-get_or, Contains-get_or}
 use Rattle.nd_summaries.specs.declared.summary.Summary.{Summary}
-use Rattle.nd_summaries.specs.Order.{AreAtMost}
+use Rattle.nd_time.specs.Order.{AreAtMost}
 use Rattle.nd_summaries.specs.Summary.{applied}
 use Rattle.nd_summaries.specs.Table.{Fit, SomeLeads}
 use Rattle.nd_summaries.proofs.Decisions.{none_more}

@@ -1,6 +1,6 @@
 use Rattle.std.proofs.Common.{◌≡◌, ◌∙◌, sym, ap, subst, length, arith}
 use Rattle.nd_graph.specs.Graph.{depths}
-use Rattle.nd_summaries.specs.Walk.{FailsAt}
+use Rattle.nd_summaries.specs.Walk.{FailsBy}
 use Rattle.nd_summaries.specs.Row.{IsRow}
 use Rattle.nd_summaries.specs.Table.{IsTable}
 use Rattle.nd_summaries.proofs.Fails.{shown_fails, fails_shown}
@@ -22,7 +22,7 @@ pub loop-location-preserved : goal.loop-location-preserved
 loop-location-preserved g c =
     let row = subst (IsRow c.args.order c.args.graph.now c.loop-location.location) (sym c.deref-in-loop-location.ensures.value) c.in_ok-row.ensures in
     let row' = subst (IsRow c.args.order c.args.graph.now c.loop-location.location) (sym c.deref.ensures.value) c.in_ok-row.ensures in
-    let fine : FailsAt c.args.order c.args.graph.now c.loop-location.location → ⊥ = λ f. c.if-shows_fail.ensures (fails_shown c.args.order c.args.graph.now c.all_arcs.ensures.agree c.loop-location.location c.deref.result.now row' f) in
+    let fine : FailsBy c.args.order c.args.graph.now c.loop-location.location → ⊥ = λ f. c.if-shows_fail.ensures (fails_shown c.args.order c.args.graph.now c.all_arcs.ensures.agree c.loop-location.location c.deref.result.now row' f) in
     record {
       indexed = c.in_ok-numbers.ensures.indexed;
       made = Made-more c.args.order c.args.graph.now c.loop-location.shared.lists.items c.numbers.new.self.lists.items c.loop-location.rows.items c.push.new.self.items c.in_ok-numbers.numbers c.deref-in-loop-location.result.now c.loop-location.location

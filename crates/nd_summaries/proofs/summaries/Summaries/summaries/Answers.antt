@@ -1,6 +1,6 @@
 use Rattle.std.proofs.Common.{◌≡◌, ◌<◌, sym, subst, get_or}
 use Rattle.nd_graph.specs.Graph.{location_count}
-use Rattle.nd_summaries.specs.declared.order.TimeOrder.TheVariants.{Lexicographic}
+use Rattle.nd_time.specs.declared.order.TimeOrder.TheVariants.{Lexicographic}
 use Rattle.nd_summaries.specs.Summary.{AreMinimalSummaries, AreLeastSummaries}
 use Rattle.nd_summaries.specs.Table.{Ordered, ordered}
 use Rattle.nd_summaries.proofs.Made.{pair_list}

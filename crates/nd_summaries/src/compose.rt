@@ -1,7 +1,7 @@
 //! Summaries one after the other, and on times.
 ghost use Rattle.std.specs.Prelude.{◌≡◌, ◌↔◌, ◌≤◌, ℕ, List, All, IfSome, IsSome, length};
 ghost use Rattle.nd_time.specs.Limits.{max_depth, max_counter};
-ghost use Rattle.nd_paths.specs.Summary.{applied, composed, left_by, IsInLimits};
+ghost use Rattle.nd_summaries.specs.Summary.{applied, composed, left_by, IsInLimits};
 
 use crate::Summary;
 use crate::summary::Constants;

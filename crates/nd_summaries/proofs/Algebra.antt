@@ -2,11 +2,11 @@
 use Rattle.std.proofs.Common.{◌≡◌, inl, inr, cond, nat_eq, ℕ, zero, suc, ◌+◌, ◌-◌, ◌<◌, ◌≤◌, List, [], ◌∷◌, ◌++◌, length, take, refl, sym, ◌∙◌, ap, subst, arith, append_assoc, length-take}
 use Rattle.std.proofs.lemmas.Bool.{cases_lt, cases_eq, lt-ltb, le-ltb, eq-eqb, ne_eqb}
 use Rattle.std.proofs.lemmas.List.{take-append-le, take-take, take_all}
-use Rattle.nd_paths.specs.declared.summary.Summary.{Summary}
+use Rattle.nd_summaries.specs.declared.summary.Summary.{Summary}
 use Rattle.std.specs.Prelude.{All}
 use Rattle.nd_time.specs.Limits.{max_depth, max_counter}
-use Rattle.nd_paths.specs.Summary.{raised, applied, composed, left_by, IsInLimits}
-use Rattle.nd_paths.proofs.Raised.{length-raised, length-applied, raised-front, raised-raised}
+use Rattle.nd_summaries.specs.Summary.{raised, applied, composed, left_by, IsInLimits}
+use Rattle.nd_summaries.proofs.Raised.{length-raised, length-applied, raised-front, raised-raised}
 
 take-append-past : (p q : List ℕ) (n : ℕ) → length p ≤ n → take n (p ++ q) ≡ p ++ take (n - length p) q
 take-append-past [] q n h = let e : n ≡ n - 0 = omega arith in ap (λ m. take m q) e

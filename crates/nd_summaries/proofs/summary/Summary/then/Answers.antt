@@ -1,11 +1,11 @@
 use Rattle.std.proofs.Common.{◌≡◌, ◌<◌, ◌≤◌, ◌+◌, length, refl, sym, ◌∙◌, ap, arith}
 use Rattle.std.specs.Prelude.{All}
 use Rattle.nd_time.specs.Limits.{max_depth, max_counter}
-use Rattle.nd_paths.specs.declared.summary.Summary.{Summary}
-use Rattle.nd_paths.specs.Summary.{left_by}
-use Rattle.nd_paths.proofs.Algebra.{over, composed_over, composed_same, composed_less, effect_of_composed, limits_over, limits_same, left_by_composed}
-use Rattle.nd_paths.proofs.summary.Summary.then.Goals as goal
-use Rattle.nd_paths.proofs.summary.Summary.then.Goals.{then-other-gt-MAX_DEPTH-via-then-other-gt-MAX_DEPTH, then-other-gt-MAX_DEPTH-via-else-other-gt-MAX_DEPTH+then-other-theirs-gt-MAX_DEPTH}
+use Rattle.nd_summaries.specs.declared.summary.Summary.{Summary}
+use Rattle.nd_summaries.specs.Summary.{left_by}
+use Rattle.nd_summaries.proofs.Algebra.{over, composed_over, composed_same, composed_less, effect_of_composed, limits_over, limits_same, left_by_composed}
+use Rattle.nd_summaries.proofs.summary.Summary.then.Goals as goal
+use Rattle.nd_summaries.proofs.summary.Summary.then.Goals.{then-other-gt-MAX_DEPTH-via-then-other-gt-MAX_DEPTH, then-other-gt-MAX_DEPTH-via-else-other-gt-MAX_DEPTH+then-other-theirs-gt-MAX_DEPTH}
 
 pub returns-then-other-gt-MAX_DEPTH-clause-some : goal.returns-then-other-gt-MAX_DEPTH-clause-some
 returns-then-other-gt-MAX_DEPTH-clause-some c = (
