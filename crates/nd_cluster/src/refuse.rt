@@ -16,7 +16,7 @@ use nd_paths::Pointstamp;
 use nd_processor::ValueAt;
 use nd_protocol::{Batch, NoMemory, Times};
 use nd_steps::op_at;
-use nd_time::Timestamp;
+use nd_time::{TimeOrder, Timestamp};
 use nd_time::limits::MAX_VALUES;
 use std::alloc::Allocator;
 
@@ -38,11 +38,11 @@ fn is_input(op: Op) -> bool
 }
 
 // Returns whether the time to which a capability moves, if there is one, is strictly later.
-fn goes_later(times: &Times) -> bool
-    ensures { IsTrue result ↔ GoesLater times.now.time times.now.to }
+fn goes_later(times: &Times, order: TimeOrder) -> bool
+    ensures { IsTrue result ↔ GoesLater order times.now.time times.now.to }
 {
     match &times.to {
-        Some(to) => times.time.at_or_before(&to.time) && times.time != to.time,
+        Some(to) => times.time.at_or_before_by(&to.time, order) && times.time != to.time,
         None => true,
     }
 }
@@ -220,7 +220,8 @@ impl<A: Allocator + Copy> Cluster<A> {
         if batch.port >= op_at(self.graph(), vertex).ports() {
             return Some(Refusal::NoPort);
         }
-        if !batch.time.at_or_before(batch.records_time()) {
+        let order = self.graph().order();
+        if !batch.time.at_or_before_by(batch.records_time(), order) {
             return Some(Refusal::TooEarly);
         }
         None
@@ -252,7 +253,7 @@ impl<A: Allocator + Copy> Cluster<A> {
                 None
             }
             Step::Release { times, .. } => {
-                if !goes_later(times.get()) {
+                if !goes_later(times.get(), self.graph().order()) {
                     return Some(Refusal::NotLater);
                 }
                 None

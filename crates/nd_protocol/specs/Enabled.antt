@@ -3,7 +3,8 @@ use Rattle.std.specs.Prelude.{◌≡◌, ◌≢◌, ℕ, ◌<◌, ◌≤◌, ◌
 use Rattle.std.specs.Int.{w64}
 use Rattle.std.specs.FinMap as fin
 use Rattle.nd_time.specs.Limits.{max_count, max_counter, max_values, max_queue}
-use Rattle.nd_time.specs.Time.{Time, IsAtOrBefore, last_of}
+use Rattle.nd_time.specs.Time.{Time, last_of}
+use Rattle.nd_time.specs.Order.{IsAtOrBeforeBy}
 use Rattle.nd_map.specs.Counts.{at}
 use Rattle.nd_graph.specs.Graph.{location_count, op_at}
 use Rattle.nd_graph.specs.declared.op.Op.TheVariants as op
@@ -106,7 +107,7 @@ ReleaseFails s p vertex times new NoVertex = length s.graph.vertices ≤ vertex
 ReleaseFails s p vertex times new NoRequest = HoldsNone s p vertex times.time ⊎ KeepsInVain s vertex times.to
 ReleaseFails s p vertex times new CountFull = HasLargeCount new
 ReleaseFails s p vertex times new DeltaFull = HasLargeEntry new
-ReleaseFails s p vertex times new NotLater = GoesLater times.time times.to → ⊥
+ReleaseFails s p vertex times new NotLater = GoesLater s.graph.order times.time times.to → ⊥
 ReleaseFails s p vertex times new _ = ⊥
 
 -- the batch names a processor that is not there
@@ -127,7 +128,7 @@ SendFails s p vertex batch new NoRequest = SendsFromNone s p vertex batch.time
 SendFails s p vertex batch new CountFull = HasLargeCount new
 SendFails s p vertex batch new DeltaFull = HasLargeEntry new
 SendFails s p vertex batch new NoPort = ports (op_at s.graph vertex) ≤ batch.port
-SendFails s p vertex batch new TooEarly = IsAtOrBefore batch.time (batch_time batch) → ⊥
+SendFails s p vertex batch new TooEarly = IsAtOrBeforeBy s.graph.order batch.time (batch_time batch) → ⊥
 SendFails s p vertex batch new _ = ⊥
 
 -- one of the queues from p holds as many changes as a queue may
@@ -162,8 +163,8 @@ Fails {A} s (Receive from to) r = ReceiveFails s from to (stepped {A = A} s (Rec
 -- what p does not send is upright; a released capability ends, or moves to a later time; what is sent is not before the capability
 abbrev pub IsAdmissible : {A : Type 0} → ClusterState → Step A → Type 0
 IsAdmissible s (Broadcast p part) = StaysUpright s p (chosen part (processor s p).unsent)
-IsAdmissible s (Release p vertex times) = GoesLater times.time times.to
-IsAdmissible s (Send p vertex batch) = IsAtOrBefore batch.time (batch_time batch)
+IsAdmissible s (Release p vertex times) = GoesLater s.graph.order times.time times.to
+IsAdmissible s (Send p vertex batch) = IsAtOrBeforeBy s.graph.order batch.time (batch_time batch)
 IsAdmissible s _ = Unit {0}
 
 -- no condition of a refusal holds, and the numbers of the step fit their types, as those of every step of a program do;

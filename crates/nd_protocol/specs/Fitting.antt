@@ -16,7 +16,7 @@ use Rattle.nd_processor.specs.declared.key.SinkKey.{SinkKey}
 use Rattle.nd_protocol.specs.State.{ClusterState}
 use Rattle.nd_protocol.specs.Ranges.{TimeIsSmall, IsValue}
 
--- edges join vertices, depths agree along the arcs, and every closed walk strictly increases every timestamp
+-- edges join vertices, depths agree along the arcs, and no closed walk turns a timestamp into one at or before it
 pub record IsOrdered (g : Dataflow) : Type 0 where
   pub joined : All (JoinsVertices g.vertices) g.edges
   pub agree : All (ArcAgrees (depths g)) (arcs g)

@@ -1,15 +1,17 @@
 -- The times of a capability that is released.
 use Rattle.std.specs.Prelude.{◌≢◌, ⊤, Bool, false, Option, Some, None, refl}
 use Rattle.std.specs.Coded.{Coded, code_by, coded×, coded_bool, coded_option}
-use Rattle.nd_time.specs.Time.{Time, IsAtOrBefore}
+use Rattle.nd_time.specs.Time.{Time}
+use Rattle.nd_time.specs.Order.{IsAtOrBeforeBy}
+use Rattle.nd_time.specs.declared.order.TimeOrder.{TimeOrder}
 use Rattle.nd_time.specs.Listing.{time_code}
 use Rattle.nd_protocol.specs.declared.times.Later.{Later}
 use Rattle.nd_protocol.specs.declared.times.Times.{Times}
 
--- a capability that moves goes to a time strictly after the one at which it was held
-abbrev pub GoesLater : Time → Option Later → Type 0
-GoesLater t None = ⊤
-GoesLater t (Some to) = IsAtOrBefore t to.time × (t ≢ to.time)
+-- a capability that moves goes to a time strictly after the one at which it was held, by the order
+abbrev pub GoesLater : TimeOrder → Time → Option Later → Type 0
+GoesLater order t None = ⊤
+GoesLater order t (Some to) = IsAtOrBeforeBy order t to.time × (t ≢ to.time)
 
 -- the capability stays beside one at a later time
 abbrev pub is_kept : Option Later → Bool

@@ -2,6 +2,7 @@
 -- are combined.
 use Rattle.std.specs.Prelude.{◌≡◌, ◌≤◌, ℕ, zero, suc, ◌+◌, ◌-◌, ℤ, pos, negsuc, ◌+ℤ◌, Bool, not, Option, Some, None, is_some, cond, List, [], ◌∷◌, ◌++◌, length}
 use Rattle.std.specs.FinMap as fin
+use Rattle.nd_time.specs.declared.order.TimeOrder.TheVariants.{Lexicographic}
 use Rattle.nd_map.specs.Counts.{at, int_at, natural}
 use Rattle.nd_paths.specs.declared.point.Pointstamp.{Pointstamp}
 use Rattle.nd_delta.specs.Delta.{DeltaValue, at as in_change}
@@ -29,7 +30,7 @@ use Rattle.nd_steps.specs.declared.effect.Effect.{Effect}
 
 -- a state with these processors only, for definitions about a list of processors
 abbrev pub only : List ProcessorState → ClusterState
-only processors = record { graph = record { vertices = []; edges = [] }; processors = processors; views = []; queues = [] }
+only processors = record { graph = record { vertices = []; edges = []; order = Lexicographic }; processors = processors; views = []; queues = [] }
 
 -- ---- combined effects
 

@@ -2,7 +2,9 @@
 -- a probe).
 use Rattle.std.specs.Prelude.{◌≡◌, ◌<◌, ℕ, ℤ, pos, ◌<ℤ◌, All, Contains, List, length, slice_index_or, ◌↔◌}
 use Rattle.std.specs.declared.cmp.Ordering.TheVariants.{Less}
-use Rattle.nd_time.specs.Time.{Time, IsAtOrBefore}
+use Rattle.nd_time.specs.Time.{Time}
+use Rattle.nd_time.specs.Order.{IsAtOrBeforeBy}
+use Rattle.nd_time.specs.declared.order.TimeOrder.{TimeOrder}
 use Rattle.nd_time.specs.Listing.{time_cmp}
 use Rattle.nd_graph.specs.Graph.{Dataflow}
 use Rattle.nd_summaries.specs.Walk.{HasDepth}
@@ -20,7 +22,7 @@ pub record CanArrive (g : Dataflow) (v : DeltaValue) (x : ℕ) (t : Time) : Type
 -- t can arrive at x, and no other time at or before it can
 pub record IsFirstArrival (g : Dataflow) (v : DeltaValue) (x : ℕ) (t : Time) : Type 0 where
   pub arrives : CanArrive g v x t
-  pub first : (u : Time) → CanArrive g v x u → IsAtOrBefore u t → u ≡ t
+  pub first : (u : Time) → CanArrive g v x u → IsAtOrBeforeBy g.order u t → u ≡ t
 
 -- the times are in the order of listing, by epoch, then by counters, and no time occurs twice
 abbrev pub AreRising : List Time → Type 0
@@ -38,13 +40,13 @@ pub record AreArrivals (g : Dataflow) (v : DeltaValue) (x : ℕ) (times : List T
 abbrev pub AreExact : Dataflow → DeltaValue → ℕ → List Time → Type 0
 AreExact g v x times =
     (t : Time) → HasDepth g x (length t.counters)
-    → IsPassed g v (record { location = x; time = t }) ↔ (HasAtOrBefore times t → ⊥)
+    → IsPassed g v (record { location = x; time = t }) ↔ (HasAtOrBefore g.order times t → ⊥)
 
--- none of these times is at or before another
-abbrev pub AreApart : List Time → Type 0
-AreApart times =
+-- none of these times is at or before another by the order
+abbrev pub AreApart : TimeOrder → List Time → Type 0
+AreApart order times =
     (i j : ℕ) (d : Time) → i < length times → j < length times
-    → IsAtOrBefore (slice_index_or times i d) (slice_index_or times j d) → i ≡ j
+    → IsAtOrBeforeBy order (slice_index_or times i d) (slice_index_or times j d) → i ≡ j
 
 -- ---- how they are found
 
@@ -59,9 +61,9 @@ abbrev pub HaveOneDepth : List Time → Type 0
 HaveOneDepth times =
     (s t : Time) → Contains times s → Contains times t → length s.counters ≡ length t.counters
 
--- the minimal ones of these times, each once, in the order of listing
-pub record AreMinimal (times minimal : List Time) : Type 0 where
+-- the minimal ones of these times by the order, each once, in the order of listing
+pub record AreMinimal (order : TimeOrder) (times minimal : List Time) : Type 0 where
   pub among : All (Contains times) minimal
-  pub covers : (t : Time) → Contains times t → HasAtOrBefore minimal t
-  pub apart : AreApart minimal
+  pub covers : (t : Time) → Contains times t → HasAtOrBefore order minimal t
+  pub apart : AreApart order minimal
   pub rising : AreRising minimal

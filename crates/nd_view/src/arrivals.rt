@@ -1,6 +1,7 @@
 //! The times that can still arrive at a location, according to a view.
-ghost use Rattle.std.specs.Prelude.{◌≡◌, ◌≢◌, ◌++◌, [], IfOk, IsSorted, OnErr, OnOk};
+ghost use Rattle.std.specs.Prelude.{◌≡◌, ◌≢◌, ◌↔◌, [], IfOk, IsTrue, IsSorted, OnErr, OnOk};
 ghost use Rattle.nd_time.specs.Listing.{time_cmp};
+ghost use Rattle.nd_paths.specs.Arrival.{HasAtOrBefore};
 ghost use Rattle.nd_paths.specs.declared.point.Pointstamp.{Pointstamp};
 ghost use Rattle.nd_view.specs.View.{IsOnFrontier};
 ghost use Rattle.nd_view.specs.Kept.{IsFor};
@@ -8,23 +9,11 @@ ghost use Rattle.nd_view.specs.Arrivals.{AreArrivals, AreExact, AreApart, AreRea
 
 use crate::View;
 use nd_paths::{ArrivalTime, Paths, Pointstamp, arrival_times_are_listed};
+use nd_time::TimeOrder;
 use std::alloc::{AllocError, Allocator};
 
-// Appends copies of `more` to `times`.
-fn push_all<A: Allocator>(
-    times: &mut Vec<ArrivalTime, A>,
-    more: &[ArrivalTime],
-) -> Result<(), AllocError>
-    ensures { OnOk result (times.new.items ≡ times.old.items ++ more.now) }
-{
-    for time in more {
-        times.push(time.copy())?;
-    }
-    Ok(())
-}
-
 // Returns times into which walks to the location turn those of the entries, the least ones among them.
-fn reached_from<A: Allocator, B: Allocator>(
+fn reached_from<A: Allocator + Copy, B: Allocator>(
     alloc: A,
     paths: &Paths<B>,
     entries: &[(Pointstamp, i64)],
@@ -35,27 +24,34 @@ fn reached_from<A: Allocator, B: Allocator>(
 {
     let mut times = Vec::new(alloc);
     for entry in entries {
-        let reached = paths.reached(&entry.0, location);
-        push_all(&mut times, reached.as_slice())?;
+        let mut reached = paths.reached(alloc, &entry.0, location)?;
+        times.append(&mut reached)?;
     }
     Ok(times)
 }
 
-// Returns the minimal times of a list in order of epoch, then counters. The counters of the times that it
-// keeps fall, so a time with any of them at or before it has the last one at or before it.
-fn minimal<A: Allocator>(alloc: A, times: &[ArrivalTime]) -> Result<Vec<ArrivalTime, A>, AllocError>
+// Returns whether one of the times is at or before `time` by the order.
+fn has_at_or_before(times: &[ArrivalTime], time: &ArrivalTime, order: TimeOrder) -> bool
+    ensures { IsTrue result ↔ HasAtOrBefore order times.now time.now }
+{
+    times.iter().any(|one| one.at_or_before_by(time, order))
+}
+
+// Returns the minimal times of a list in order of epoch, then counters. A time at or before another is listed
+// before it, in both orders.
+fn minimal<A: Allocator>(
+    alloc: A,
+    times: &[ArrivalTime],
+    order: TimeOrder,
+) -> Result<Vec<ArrivalTime, A>, AllocError>
     requires depth { HaveOneDepth times.now }
     requires sorted { IsSorted time_cmp times.now }
-    ensures value { IfOk result (λ v. AreMinimal times.now v.items) }
+    ensures value { IfOk result (λ v. AreMinimal order times.now v.items) }
     ensures some { OnErr result (times.now ≢ []) }
 {
     let mut kept: Vec<ArrivalTime, A> = Vec::new(alloc);
     for time in times {
-        let is_covered = match kept.last() {
-            Some(last) => last.at_or_before(time),
-            None => false,
-        };
-        if !is_covered {
+        if !has_at_or_before(&kept, time, order) {
             kept.push(time.copy())?;
         }
     }
@@ -78,7 +74,7 @@ impl<A: Allocator + Copy> View<A> {
         requires { IsFor paths.now self.now }
         ensures value { IfOk result (λ v. AreArrivals paths.now self.now.map location v.items) }
         ensures exact { IfOk result (λ v. AreExact paths.now self.now.map location v.items) }
-        ensures apart { IfOk result (λ v. AreApart v.items) }
+        ensures apart { IfOk result (λ v. AreApart paths.now.order v.items) }
         ensures some { OnErr result ((x : Pointstamp) × IsOnFrontier paths.now self.now.map x) }
     {
         paths.order_is_partial();
@@ -87,6 +83,6 @@ impl<A: Allocator + Copy> View<A> {
         let frontier = self.frontier(alloc, paths)?;
         let mut times = reached_from(alloc, paths, frontier.entries(), location)?;
         times.sort_unstable();
-        minimal(alloc, &times)
+        minimal(alloc, &times, paths.graph().order())
     }
 }

@@ -1,5 +1,6 @@
 -- The replies that end a script before its first command.
 use Rattle.std.specs.Prelude.{[], string_bytes}
+use Rattle.nd_time.specs.declared.order.TimeOrder.TheVariants.{Lexicographic}
 use Rattle.nd_graph.specs.Graph.{Dataflow}
 use Rattle.serde_json.specs.Data.{Data}
 use Rattle.rewind_replies.specs.Replies.{fault, faulty, location_fault}
@@ -8,7 +9,7 @@ use Rattle.rewind_replies.specs.declared.replies.ErrorReply.TheVariants.{Plain, 
 
 -- the graph before there is one
 abbrev pub no_graph : Dataflow
-no_graph = record { vertices = []; edges = [] }
+no_graph = record { vertices = []; edges = []; order = Lexicographic }
 
 -- an error's number and name, and where it is
 abbrev pub error_data : ErrorReply → Data
