@@ -6,6 +6,7 @@ use Rattle.std.specs.List.{All}
 use Rattle.std.specs.Option.{option_map_or}
 use Rattle.std.specs.Str.{bytes_eq}
 use Rattle.nd_time.specs.Limits.{max_depth, max_locations}
+use Rattle.nd_time.specs.declared.order.TimeOrder.{TimeOrder}
 use Rattle.nd_graph.specs.declared.graph.Vertex.{Vertex}
 use Rattle.nd_graph.specs.declared.graph.Edge.{Edge}
 use Rattle.nd_graph.specs.declared.draft.DraftEdge.{DraftEdge}
@@ -82,26 +83,26 @@ both_found true o x h = cc
 both_found false None x h = cc
 both_found false (Some y) x h = (refl, cc)
 
-pub faultless : (most many : ℕ) (vertices : List Vertex) (written : List DraftEdge) (edges : List Edge) → most ≤ max_depth → many ≤ max_locations → edges_between vertices written ≡ Ok edges
-    → fault_of most many (record { vertices = vertices; edges = edges }) ≡ None → IsFaultless (record { vertices = vertices; edges = edges })
+pub faultless : (most many : ℕ) (order : TimeOrder) (vertices : List Vertex) (written : List DraftEdge) (edges : List Edge) → most ≤ max_depth → many ≤ max_locations → edges_between vertices written ≡ Ok edges
+    → fault_of most many (record { order = order; vertices = vertices; edges = edges }) ≡ None → IsFaultless (record { order = order; vertices = vertices; edges = edges })
 unfolding edges_between
-faultless most many vertices written edges low few h none =
+faultless most many order vertices written edges low few h none =
     let found = both_found (has_double (written_names vertices written)) (every (located vertices) written) edges h in
     let joined = all_join vertices written edges found.1 in
     record {
       once = ap (λ more. has_double (map (λ v. v.name) vertices ++ more)) joined.1 ∙ found.0;
       joined = joined.0;
-      faultless = fewer_faults most max_depth many max_locations (record { vertices = vertices; edges = edges }) low few none;
+      faultless = fewer_faults most max_depth many max_locations (record { order = order; vertices = vertices; edges = edges }) low few none;
     }
 
 pub checked-fault : (most many : ℕ) (d : Draft) (edges : List Edge) (e : GraphFault) → edges_between d.vertices d.edges ≡ Ok edges
-    → fault_of most many (record { vertices = d.vertices; edges = edges }) ≡ Some e → checked_within most many d ≡ Err e
+    → fault_of most many (record { order = d.order; vertices = d.vertices; edges = edges }) ≡ Some e → checked_within most many d ≡ Err e
 unfolding checked_within judged
 checked-fault most many d edges e h fault =
-    ap (judged_with most many d.vertices) h ∙ ap (λ o. option_map_or (λ x. Err x) o (Ok (record { vertices = d.vertices; edges = edges }))) fault
+    ap (judged_with most many d.order d.vertices) h ∙ ap (λ o. option_map_or (λ x. Err x) o (Ok (record { order = d.order; vertices = d.vertices; edges = edges }))) fault
 
 pub checked-faultless : (most many : ℕ) (d : Draft) (edges : List Edge) → edges_between d.vertices d.edges ≡ Ok edges
-    → fault_of most many (record { vertices = d.vertices; edges = edges }) ≡ None → checked_within most many d ≡ Ok (record { vertices = d.vertices; edges = edges })
+    → fault_of most many (record { order = d.order; vertices = d.vertices; edges = edges }) ≡ None → checked_within most many d ≡ Ok (record { order = d.order; vertices = d.vertices; edges = edges })
 unfolding checked_within judged
 checked-faultless most many d edges h none =
-    ap (judged_with most many d.vertices) h ∙ ap (λ o. option_map_or (λ x. Err x) o (Ok (record { vertices = d.vertices; edges = edges }))) none
+    ap (judged_with most many d.order d.vertices) h ∙ ap (λ o. option_map_or (λ x. Err x) o (Ok (record { order = d.order; vertices = d.vertices; edges = edges }))) none

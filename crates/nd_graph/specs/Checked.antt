@@ -3,7 +3,8 @@ use Rattle.std.specs.Prelude.{◌≡◌, ℕ, ◌<◌, All, Bool, false, not, �
 use Rattle.std.specs.Option.{option_map_or}
 use Rattle.std.specs.List.{list_any, position}
 use Rattle.std.specs.Str.{bytes_eq}
-use Rattle.nd_time.specs.Limits.{max_depth, max_depth_v1, max_locations, max_locations_v5}
+use Rattle.nd_time.specs.Limits.{max_depth, max_depth_v1, max_locations, max_locations_v8, max_locations_v5}
+use Rattle.nd_time.specs.declared.order.TimeOrder.{TimeOrder}
 use Rattle.nd_graph.specs.declared.op.Op.{Op}
 use Rattle.nd_graph.specs.declared.graph.Vertex.{Vertex}
 use Rattle.nd_graph.specs.declared.graph.Edge.{Edge}
@@ -117,17 +118,21 @@ unfoldable pub judged : ℕ → ℕ → Dataflow → Result Dataflow GraphFault
 judged most many g = option_map_or (λ e. Err e) (fault_of most many g) (Ok g)
 
 -- the same, once the ends of the edges are looked up
-abbrev pub judged_with : ℕ → ℕ → List Vertex → Result (List Edge) GraphFault → Result Dataflow GraphFault
-judged_with most many vertices (Ok edges) = judged most many (graph_of vertices edges)
-judged_with most many vertices (Err e) = Err e
+abbrev pub judged_with : ℕ → ℕ → TimeOrder → List Vertex → Result (List Edge) GraphFault → Result Dataflow GraphFault
+judged_with most many order vertices (Ok edges) = judged most many (graph_of order vertices edges)
+judged_with most many order vertices (Err e) = Err e
 
 -- the graph that a draft describes, or the error with the least number, for these limits of depth and of locations
 unfoldable pub checked_within : ℕ → ℕ → Draft → Result Dataflow GraphFault
-checked_within most many d = judged_with most many d.vertices (edges_between d.vertices d.edges)
+checked_within most many d = judged_with most many d.order d.vertices (edges_between d.vertices d.edges)
 
 -- the same, for the current limits
 abbrev pub checked : Draft → Result Dataflow GraphFault
 checked = checked_within max_depth max_locations
+
+-- the same, for the limits of the versions 6 to 8
+abbrev pub checked_v8 : Draft → Result Dataflow GraphFault
+checked_v8 = checked_within max_depth max_locations_v8
 
 -- the same, for the limits of the versions 2 to 5
 abbrev pub checked_v5 : Draft → Result Dataflow GraphFault

@@ -1,6 +1,8 @@
 -- Graphs encoded as numbers, so that the value of a model can contain a graph.
 use Rattle.std.specs.Prelude.{◌≡◌, ℕ, ℤ, pos, Bool, true, false, List, [], ◌∷◌, slice_index_or, unsigned_abs, refl}
 use Rattle.std.specs.Coded.{Coded, code_by, coded×, coded_ℕ, coded_ℤ, coded_bool, coded_list}
+use Rattle.nd_time.specs.declared.order.TimeOrder.{TimeOrder}
+use Rattle.nd_time.specs.declared.order.TimeOrder.TheVariants.{Lexicographic, Product}
 use Rattle.nd_graph.specs.Graph.{Dataflow}
 use Rattle.nd_graph.specs.declared.op.Op.{Op}
 use Rattle.nd_graph.specs.declared.op.Op.TheVariants.{Input, Ingress, Egress, Feedback, Add, Mul, Below, Split, Sum, Distinct, Hold, Opaque, Sink}
@@ -51,11 +53,26 @@ pub route_back : (r : Route) → route_of (is_local r) ≡ r
 route_back Local = refl
 route_back Exchange = refl
 
+abbrev pub is_lexicographic : TimeOrder → Bool
+is_lexicographic Lexicographic = true
+is_lexicographic Product = false
+
+abbrev pub order_of : Bool → TimeOrder
+order_of true = Lexicographic
+order_of false = Product
+
+pub order_back : (o : TimeOrder) → order_of (is_lexicographic o) ≡ o
+order_back Lexicographic = refl
+order_back Product = refl
+
 abbrev pub op_code : Coded Op
 op_code = code_by (ℕ × ℤ) (coded× coded_ℕ coded_ℤ) op_parts op_of op_back
 
 abbrev pub route_code : Coded Route
 route_code = code_by Bool coded_bool is_local route_of route_back
+
+abbrev pub order_code : Coded TimeOrder
+order_code = code_by Bool coded_bool is_lexicographic order_of order_back
 
 abbrev pub vertex_code : Coded Vertex
 vertex_code =
@@ -73,7 +90,7 @@ edge_code =
 
 abbrev pub graph_code : Coded Dataflow
 graph_code =
-    code_by (List Vertex × List Edge) (coded× (coded_list vertex_code) (coded_list edge_code))
-    (λ g. (g.vertices, g.edges))
-    (λ t. record { vertices = t.0; edges = t.1 })
+    code_by (TimeOrder × (List Vertex × List Edge)) (coded× order_code (coded× (coded_list vertex_code) (coded_list edge_code)))
+    (λ g. (g.order, (g.vertices, g.edges)))
+    (λ t. record { order = t.0; vertices = t.1.0; edges = t.1.1 })
     (λ _. refl)

@@ -1,11 +1,13 @@
 -- The JSON form of a graph.
-use Rattle.std.specs.Prelude.{ℕ, ℤ, Bool, true, false, not, ◌&&◌, nat_le, List, [], ◌∷◌, if◌then◌else◌, Option, Some, None, option_map, option_and_then, codes}
+use Rattle.std.specs.Prelude.{ℕ, ℤ, Bool, true, false, ◌&&◌, nat_le, List, [], ◌∷◌, if◌then◌else◌, Option, Some, None, option_map, option_and_then, codes}
 use Rattle.std.specs.Str.{bytes_eq}
-use Rattle.std.specs.List.{list_any}
+use Rattle.std.specs.List.{list_all, list_any}
 use Rattle.serde_json.specs.Data.{Data}
 use Rattle.nd_time.specs.Limits.{max_ports}
+use Rattle.nd_time.specs.declared.order.TimeOrder.{TimeOrder}
+use Rattle.nd_time.specs.declared.order.TimeOrder.TheVariants.{Lexicographic, Product}
 use Rattle.nd_json.specs.Forms.{has_keys, text_at, small_at, integer_at, boolean_at, list_at}
-use Rattle.nd_graph.specs.Name.{is_name}
+use Rattle.nd_graph.specs.Name.{is_name, is_name_v8}
 use Rattle.nd_graph.specs.declared.op.Op.{Op}
 use Rattle.nd_graph.specs.declared.op.Op.TheVariants as op
 use Rattle.nd_graph.specs.declared.op.Route.{Route}
@@ -15,6 +17,7 @@ use Rattle.nd_graph.specs.declared.draft.DraftEdge.{DraftEdge}
 
 -- a graph as it is written: the ends of its edges are names
 pub record Draft : Type 0 where
+  pub order : TimeOrder
   pub vertices : List Vertex
   pub edges : List DraftEdge
 
@@ -104,15 +107,39 @@ vertices_in d = every_at (codes "vertices") vertex_of d
 abbrev pub edges_in : Data → Option (List DraftEdge)
 edges_in d = every_at (codes "edges") edge_of d
 
+-- the order of timestamps that a text names
+unfoldable pub order_of : List ℕ → Option TimeOrder
+order_of text =
+    if bytes_eq text (codes "lexicographic") then Some Lexicographic else
+    (if bytes_eq text (codes "product") then Some Product else None)
+
+-- the keys of a graph that does not name its order
+abbrev pub has_plain_keys : Data → Bool
+has_plain_keys d = has_keys (codes "edges" ∷ codes "vertices" ∷ []) d
+
+-- the order of a graph's timestamps, which is lexicographic without the key "order"
+unfoldable pub order_in : Data → Option TimeOrder
+order_in d =
+    if has_plain_keys d then Some Lexicographic else
+    (if has_keys (codes "edges" ∷ codes "order" ∷ codes "vertices" ∷ []) d
+    then option_and_then order_of (text_at (codes "order") d)
+    else None)
+
 -- the graph that a JSON value describes
 unfoldable pub draft_of : Data → Option Draft
 draft_of d =
-    if has_keys (codes "edges" ∷ codes "vertices" ∷ []) d
-    then option_and_then (λ vertices. option_map
-    (λ edges. record { vertices = vertices; edges = edges }) (edges_in d)) (vertices_in d)
-    else None
+    option_and_then (λ order. option_and_then (λ vertices. option_map
+    (λ edges. record { order = order; vertices = vertices; edges = edges }) (edges_in d)) (vertices_in d)) (order_in d)
 
 -- ---- earlier versions
+
+-- each vertex and each edge has a name that the versions before 9 have
+abbrev pub are_named_v8 : List Vertex → List DraftEdge → Bool
+are_named_v8 vertices edges = list_all (λ v. is_name_v8 v.name) vertices && list_all (λ e. is_name_v8 e.name) edges
+
+-- the draft, if all its names are such names
+abbrev pub with_names_v8 : Draft → Option Draft
+with_names_v8 draft = if are_named_v8 draft.vertices draft.edges then Some draft else None
 
 abbrev pub is_opaque : Op → Bool
 is_opaque (op.Opaque _ _) = true
@@ -126,9 +153,13 @@ is_hold _ = false
 abbrev pub without : (Op → Bool) → Draft → Option Draft
 without banned draft = if list_any (λ v. banned v.op) draft.vertices then None else Some draft
 
--- the graph that a JSON value describes in a script of a version before 6
+-- the graph that a JSON value describes in a script of a version before 9, which does not name its order
+unfoldable pub draft_of_v8 : Data → Option Draft
+draft_of_v8 d = if has_plain_keys d then option_and_then with_names_v8 (draft_of d) else None
+
+-- the same for a version before 6
 unfoldable pub draft_of_v5 : Data → Option Draft
-draft_of_v5 d = option_and_then (without is_opaque) (draft_of d)
+draft_of_v5 d = option_and_then (without is_opaque) (draft_of_v8 d)
 
 -- the same for a version before 5
 unfoldable pub draft_of_v4 : Data → Option Draft

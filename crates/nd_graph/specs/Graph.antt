@@ -3,6 +3,7 @@
 use Rattle.std.specs.Prelude.{◌≡◌, ℕ, ◌+◌, ◌-◌, ◌<◌, ◌≤◌, All, List, [], ◌∷◌, ◌++◌, length, map, slice_index, slice_get}
 use Rattle.std.specs.Option.{option_map_or}
 use Rattle.nd_time.specs.Limits.{max_depth, max_locations}
+use Rattle.nd_time.specs.declared.order.TimeOrder.{TimeOrder}
 use Rattle.nd_time.specs.Time.{ingress_of, egress_of, feedback_of}
 use Rattle.nd_graph.specs.declared.op.Op.{Op}
 use Rattle.nd_graph.specs.declared.op.Op.TheVariants as op
@@ -13,13 +14,14 @@ use Rattle.nd_graph.specs.declared.graph.Vertex.{Vertex}
 use Rattle.nd_graph.specs.declared.graph.Edge.{Edge}
 use Rattle.nd_graph.specs.declared.graph.Arc.{Arc}
 
--- a graph: its vertices and its edges, each in order of appearance
+-- a graph: the order of its timestamps, and its vertices and its edges, each in order of appearance
 pub record Dataflow : Type 0 where
+  pub order : TimeOrder
   pub vertices : List Vertex
   pub edges : List Edge
 
-abbrev pub graph_of : List Vertex → List Edge → Dataflow
-graph_of vertices edges = record { vertices = vertices; edges = edges }
+abbrev pub graph_of : TimeOrder → List Vertex → List Edge → Dataflow
+graph_of order vertices edges = record { order = order; vertices = vertices; edges = edges }
 
 -- what a vertex with this operator does to the times that pass through it
 abbrev pub action_of : Op → Action

@@ -1,11 +1,12 @@
 //! Builds a graph from vertices and edges that were checked.
-ghost use Rattle.std.specs.Prelude.{◌≡◌, ◌+◌, ◌≤◌, IfOk, length};
+ghost use Rattle.std.specs.Prelude.{◌≡◌, ◌+◌, ◌++◌, ◌≤◌, IfOk, length, map};
 ghost use Rattle.nd_time.specs.Limits.{max_locations};
-ghost use Rattle.nd_graph.specs.Graph.{graph_of, depths as all_depths, arcs as all_arcs, action_at};
+ghost use Rattle.nd_graph.specs.Graph.{graph_of, depth_past_vertex, arcs_from, action_at};
 ghost use Rattle.nd_graph.specs.Checked.{IsFaultless};
 
 use crate::check::edge_depth;
 use crate::{Action, Arc, Edge, Graph, Vertex};
+use nd_time::TimeOrder;
 use std::alloc::{AllocError, Allocator};
 
 // Returns the depth of each location.
@@ -14,7 +15,8 @@ fn depths_of<A: Allocator>(
     vertices: &[Vertex],
     edges: &[Edge],
 ) -> Result<Vec<usize, A>, AllocError>
-    ensures { IfOk result (λ v. v.items ≡ all_depths (graph_of vertices.now edges.now)) }
+    ensures { IfOk result (λ v. v.items ≡ map (λ v. v.depth) vertices.now
+        ++ map (λ e. depth_past_vertex vertices.now e.from) edges.now) }
 {
     let mut depths = Vec::new(alloc);
     for vertex in vertices {
@@ -43,7 +45,7 @@ fn arcs_of<A: Allocator>(
     edges: &[Edge],
 ) -> Result<Vec<Arc, A>, AllocError>
     requires { length vertices.now + length edges.now ≤ max_locations }
-    ensures { IfOk result (λ v. v.items ≡ all_arcs (graph_of vertices.now edges.now)) }
+    ensures { IfOk result (λ v. v.items ≡ arcs_from vertices.now (length vertices.now) edges.now) }
 {
     let mut arcs = Vec::new(alloc);
     for (index, edge) in edges.iter().enumerate() {
@@ -62,16 +64,17 @@ fn arcs_of<A: Allocator>(
     Ok(arcs)
 }
 
-/// Returns the graph of these vertices and edges.
+/// Returns the graph of this order and these vertices and edges.
 pub(crate) fn built<A: Allocator + Copy>(
     alloc: A,
+    order: TimeOrder,
     vertices: Vec<Vertex, A>,
     edges: Vec<Edge, A>,
 ) -> Result<Graph<A>, AllocError>
-    requires { IsFaultless (graph_of vertices.items edges.items) }
-    ensures { IfOk result (λ g. g ≡ graph_of vertices.items edges.items) }
+    requires { IsFaultless (graph_of order vertices.items edges.items) }
+    ensures { IfOk result (λ g. g ≡ graph_of order vertices.items edges.items) }
 {
     let depths = depths_of(alloc, &vertices, &edges)?;
     let arcs = arcs_of(alloc, &vertices, &edges)?;
-    Ok(Graph::from_parts(vertices, edges, depths, arcs))
+    Ok(Graph::from_parts(order, vertices, edges, depths, arcs))
 }

@@ -1,6 +1,7 @@
 //! Checks a graph whose names are resolved: its ports, its depths and its size.
 ghost use Rattle.std.specs.Prelude.{◌≡◌, ◌+◌, nat_lt};
 ghost use Rattle.std.specs.List.{list_any};
+ghost use Rattle.nd_time.specs.declared.order.TimeOrder.{TimeOrder};
 ghost use Rattle.nd_graph.specs.Graph.{graph_of, depth_past as past_depth, action_of, depth_past_vertex};
 ghost use Rattle.nd_graph.specs.Checked as rule;
 
@@ -115,7 +116,7 @@ fn some_leads_too_deep(most: usize, vertices: &[Vertex], edges: &[Edge]) -> bool
 
 #[tactic(auto, unfolding(crate::specs::Checked::has_depth_mismatch))]
 fn has_depth_mismatch(vertices: &[Vertex], edges: &[Edge]) -> bool
-    ensures { result ≡ rule.has_depth_mismatch (graph_of vertices.now edges.now) }
+    ensures { (order : TimeOrder) → result ≡ rule.has_depth_mismatch (graph_of order vertices.now edges.now) }
 {
     some_is_misplaced(vertices) || some_misses_depth(vertices, edges)
 }
@@ -128,7 +129,7 @@ fn are_too_many(many: usize, vertices: usize, edges: usize) -> bool
 
 #[tactic(auto, unfolding(crate::specs::Checked::is_too_large))]
 fn is_too_large(most: usize, many: usize, vertices: &[Vertex], edges: &[Edge]) -> bool
-    ensures { result ≡ rule.is_too_large most many (graph_of vertices.now edges.now) }
+    ensures { (order : TimeOrder) → result ≡ rule.is_too_large most many (graph_of order vertices.now edges.now) }
 {
     are_too_many(many, vertices.len(), edges.len())
         || some_is_too_deep(most, vertices)
@@ -144,7 +145,7 @@ pub(crate) fn fault_of(
     vertices: &[Vertex],
     edges: &[Edge],
 ) -> Option<GraphFault>
-    ensures { result ≡ rule.fault_of most many (graph_of vertices.now edges.now) }
+    ensures { (order : TimeOrder) → result ≡ rule.fault_of most many (graph_of order vertices.now edges.now) }
 {
     if some_has_bad_port(vertices, edges) {
         Some(GraphFault::BadPort)

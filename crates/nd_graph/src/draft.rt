@@ -1,10 +1,11 @@
 //! A graph as it is written, before its names are resolved.
 ghost use Rattle.std.specs.Prelude.{◌≡◌, ◌≤◌, ◌⊎◌, IfOk, IfErr, Some, None, ok_or};
-ghost use Rattle.std.specs.List.{list_any};
+ghost use Rattle.std.specs.List.{list_all, list_any};
 ghost use Rattle.serde_json.specs.View.{view};
 ghost use Rattle.nd_graph.specs.Draft as form;
+ghost use Rattle.nd_graph.specs.Name.{is_name_v8};
 ghost use Rattle.nd_time.specs.Limits.{max_depth, max_locations};
-ghost use Rattle.nd_graph.specs.Checked.{checked, checked_v1, checked_v5, checked_within};
+ghost use Rattle.nd_graph.specs.Checked.{checked, checked_v1, checked_v5, checked_v8, checked_within};
 ghost use Rattle.nd_graph.specs.Fault.{IsUnlessMemory};
 ghost use Rattle.nd_graph.specs.declared.fault.GraphFault.TheVariants.{Shape, Memory};
 
@@ -13,7 +14,10 @@ use crate::check::fault_of;
 use crate::names::edges_between;
 use crate::{Graph, GraphFault, Name, Op, Route, Vertex};
 use nd_json::{boolean_at, has_keys, integer_at, list_at, small_at, text_at};
-use nd_time::limits::{MAX_DEPTH, MAX_DEPTH_V1, MAX_LOCATIONS, MAX_LOCATIONS_V5, MAX_PORTS};
+use nd_time::TimeOrder;
+use nd_time::limits::{
+    MAX_DEPTH, MAX_DEPTH_V1, MAX_LOCATIONS, MAX_LOCATIONS_V5, MAX_LOCATIONS_V8, MAX_PORTS,
+};
 use serde_json::Value;
 use std::alloc::{Allocator, Global};
 use std::marker::Model;
@@ -34,6 +38,7 @@ pub struct DraftEdge {
 /// A graph as it is written: its names, ports and depths are not checked yet.
 #[derive(Drop)]
 pub struct GraphDraft<A: Allocator = Global> {
+    order: TimeOrder,
     vertices: Vec<Vertex, A>,
     edges: Vec<DraftEdge, A>,
 }
@@ -43,7 +48,7 @@ impl<A: Allocator> Model for GraphDraft<A> {
 
     ghost Value = { Draft };
 
-    ghost view = { λ a. record { vertices = a.vertices.items; edges = a.edges.items } };
+    ghost view = { λ a. record { order = a.order; vertices = a.vertices.items; edges = a.edges.items } };
 }
 
 impl<A: Allocator> GraphDraft<A> {
@@ -54,12 +59,34 @@ impl<A: Allocator> GraphDraft<A> {
         A: Copy,
         ensures { IsUnlessMemory (ok_or (form.draft_of (view value.now)) Shape) result }
     {
-        if !has_keys(value, ["edges", "vertices"].as_slice()) {
-            return Err(GraphFault::Shape);
-        }
+        let order = order_in(value).ok_or(GraphFault::Shape)?;
         let vertices = vertices_of(alloc, value)?;
         let edges = edges_of(alloc, value)?;
-        Ok(GraphDraft { vertices, edges })
+        Ok(GraphDraft {
+            order,
+            vertices,
+            edges,
+        })
+    }
+
+    /// Does the same for a graph of the versions before 9, which does not name its order, and in which a name has at most
+    /// 32 bytes and no space.
+    pub fn from_value_v8(alloc: A, value: &Value) -> Result<GraphDraft<A>, GraphFault>
+    where
+        A: Copy,
+        ensures { IsUnlessMemory (ok_or (form.draft_of_v8 (view value.now)) Shape) result }
+    {
+        if !has_plain_keys(value) {
+            return Err(GraphFault::Shape);
+        }
+        let draft = match GraphDraft::from_value(alloc, value) {
+            Ok(draft) => draft,
+            Err(fault) => return Err(fault),
+        };
+        if !are_named_v8(&draft.vertices, &draft.edges) {
+            return Err(GraphFault::Shape);
+        }
+        Ok(draft)
     }
 
     /// Does the same for a graph of the versions before 6, in which no vertex is opaque.
@@ -68,7 +95,7 @@ impl<A: Allocator> GraphDraft<A> {
         A: Copy,
         ensures { IsUnlessMemory (ok_or (form.draft_of_v5 (view value.now)) Shape) result }
     {
-        let draft = match GraphDraft::from_value(alloc, value) {
+        let draft = match GraphDraft::from_value_v8(alloc, value) {
             Ok(draft) => draft,
             Err(fault) => return Err(fault),
         };
@@ -95,13 +122,22 @@ impl<A: Allocator> GraphDraft<A> {
     }
 
     /// Checks the graph, and replaces the names of its edges' ends by locations. Of several errors it returns the one with the
-    /// least number, and never `Shape`. A graph may have 256 locations, each in at most 6 nested loops.
+    /// least number, and never `Shape`. A graph may have 4,096 locations, each in at most 6 nested loops.
     pub fn check(self, alloc: A) -> Result<Graph<A>, GraphFault>
     where
         A: Copy,
         ensures { IsUnlessMemory (checked self) result }
     {
         self.check_within(alloc, MAX_DEPTH, MAX_LOCATIONS)
+    }
+
+    /// Does the same for a graph of the versions 6 to 8, which may have 256 locations.
+    pub fn check_v8(self, alloc: A) -> Result<Graph<A>, GraphFault>
+    where
+        A: Copy,
+        ensures { IsUnlessMemory (checked_v8 self) result }
+    {
+        self.check_within(alloc, MAX_DEPTH, MAX_LOCATIONS_V8)
     }
 
     /// Does the same for a graph of the versions 2 to 5, which may have 64 locations.
@@ -132,6 +168,7 @@ impl<A: Allocator> GraphDraft<A> {
         ensures { IsUnlessMemory (checked_within most many self) result }
     {
         let GraphDraft {
+            order,
             vertices,
             edges: written,
         } = self;
@@ -139,7 +176,38 @@ impl<A: Allocator> GraphDraft<A> {
         if let Some(fault) = fault_of(most, many, &vertices, &edges) {
             return Err(fault);
         }
-        Ok(built(alloc, vertices, edges)?)
+        Ok(built(alloc, order, vertices, edges)?)
+    }
+}
+
+// Returns whether the value has the keys of a graph that does not name its order.
+fn has_plain_keys(value: &Value) -> bool
+    ensures { result ≡ form.has_plain_keys (view value.now) }
+{
+    has_keys(value, ["edges", "vertices"].as_slice())
+}
+
+#[tactic(auto, unfolding(crate::specs::Draft::order_in))]
+fn order_in(value: &Value) -> Option<TimeOrder>
+    ensures { result ≡ form.order_in (view value.now) }
+{
+    if has_plain_keys(value) {
+        Some(TimeOrder::Lexicographic)
+    } else if has_keys(value, ["edges", "order", "vertices"].as_slice()) {
+        order_of(text_at(value, "order")?)
+    } else {
+        None
+    }
+}
+
+#[tactic(auto, unfolding(crate::specs::Draft::order_of))]
+fn order_of(text: &str) -> Option<TimeOrder>
+    ensures { result ≡ form.order_of text.now }
+{
+    match text {
+        "lexicographic" => Some(TimeOrder::Lexicographic),
+        "product" => Some(TimeOrder::Product),
+        _ => None,
     }
 }
 
@@ -200,6 +268,25 @@ fn edge_of(value: &Value) -> Option<DraftEdge>
         to: name_of(to),
         route,
     })
+}
+
+fn vertices_are_named_v8(vertices: &[Vertex]) -> bool
+    ensures { result ≡ list_all (λ v. is_name_v8 v.name) vertices.now }
+{
+    vertices.iter().all(|vertex| vertex.name.is_in_version_8())
+}
+
+fn edges_are_named_v8(edges: &[DraftEdge]) -> bool
+    ensures { result ≡ list_all (λ e. is_name_v8 e.name) edges.now }
+{
+    edges.iter().all(|edge| edge.name.is_in_version_8())
+}
+
+// Returns whether the versions before 9 have each name of a vertex or an edge.
+fn are_named_v8(vertices: &[Vertex], edges: &[DraftEdge]) -> bool
+    ensures { result ≡ form.are_named_v8 vertices.now edges.now }
+{
+    vertices_are_named_v8(vertices) && edges_are_named_v8(edges)
 }
 
 fn is_opaque(op: Op) -> bool

@@ -4,6 +4,7 @@ ghost use Rattle.nd_time.specs.Limits.{max_depth, max_locations};
 ghost use Rattle.nd_graph.specs.Graph.{arcs as arcs_of, depths as depths_of, location_count as count_of, ArcAgrees};
 
 use crate::{Action, Name, Op, Route};
+use nd_time::TimeOrder;
 use std::alloc::{AllocError, Allocator, Global};
 use std::marker::Model;
 
@@ -68,6 +69,7 @@ pub struct Arc {
 
 /// A dataflow graph (Naiad, SOSP 2013, section 2.1).
 pub struct Graph<A: Allocator = Global> {
+    order: TimeOrder,
     vertices: Vec<Vertex, A>,
     edges: Vec<Edge, A>,
     depths: Vec<usize, A>,
@@ -77,6 +79,7 @@ pub struct Graph<A: Allocator = Global> {
 impl<A: Allocator> Drop for Graph<A> {
     fn drop(self) {
         let Graph {
+            order: _,
             vertices: _,
             edges: _,
             depths: _,
@@ -91,11 +94,11 @@ impl<A: Allocator> Model for Graph<A> {
 
     ghost Value = { Dataflow };
 
-    ghost view = { λ a. graph_of a.vertices.items a.edges.items };
+    ghost view = { λ a. graph_of a.order a.vertices.items a.edges.items };
 
     ghost invariant = { λ a.
-        IsGraph (graph_of a.vertices.items a.edges.items) a.depths.items a.arcs.items
-        × IsFaultless (graph_of a.vertices.items a.edges.items) };
+        IsGraph (graph_of a.order a.vertices.items a.edges.items) a.depths.items a.arcs.items
+        × IsFaultless (graph_of a.order a.vertices.items a.edges.items) };
 }
 
 fn copied_vertices<A: Allocator>(
@@ -127,21 +130,30 @@ impl<A: Allocator> Graph<A> {
 
     /// Returns the graph of these parts.
     pub(crate) fn from_parts(
+        order: TimeOrder,
         vertices: Vec<Vertex, A>,
         edges: Vec<Edge, A>,
         depths: Vec<usize, A>,
         arcs: Vec<Arc, A>,
     ) -> Graph<A>
-        requires kept { IsGraph (graph_of vertices.items edges.items) depths.items arcs.items }
-        requires sound { IsFaultless (graph_of vertices.items edges.items) }
-        ensures { result ≡ graph_of vertices.items edges.items }
+        requires kept { IsGraph (graph_of order vertices.items edges.items) depths.items arcs.items }
+        requires sound { IsFaultless (graph_of order vertices.items edges.items) }
+        ensures { result ≡ graph_of order vertices.items edges.items }
     {
         Graph {
+            order,
             vertices,
             edges,
             depths,
             arcs,
         }
+    }
+
+    /// Returns the order of the graph's timestamps.
+    pub fn order(&self) -> TimeOrder
+        ensures { result ≡ self.now.order }
+    {
+        self.order
     }
 
     /// Returns the vertices, in order of appearance.
@@ -208,6 +220,7 @@ impl<A: Allocator> Graph<A> {
         let depths = Vec::from_slice(alloc, &self.depths)?;
         let arcs = Vec::from_slice(alloc, &self.arcs)?;
         Ok(Graph {
+            order: self.order,
             vertices,
             edges,
             depths,

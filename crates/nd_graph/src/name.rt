@@ -6,15 +6,15 @@ ghost use Rattle.std.specs.Cmp.Lexicographic.{pointwise, nat_list_eq_equiv};
 ghost use Rattle.std.specs.Cmp.Rules.{hashing};
 ghost use Rattle.std.specs.Hash as fed;
 ghost use Rattle.std.proofs.Common.{rules};
-ghost use Rattle.nd_graph.specs.Name.{is_name, is_plain};
+ghost use Rattle.nd_graph.specs.Name.{is_name, is_name_v8, is_plain, is_text_within};
 
 use arrayvec::ArrayString;
-use nd_time::limits::MAX_NAME;
+use nd_time::limits::{MAX_NAME, MAX_NAME_V8};
 use std::fmt;
 use std::hash::{Hash, Hasher};
 use std::marker::Model;
 
-/// A name: 1 to 32 bytes, each from `!` to `~`.
+/// A name: 1 to 128 bytes, each from a space to `~`.
 #[derive(Drop)]
 pub struct Name {
     text: ArrayString<MAX_NAME>,
@@ -31,22 +31,22 @@ impl Model for Name {
     ghost invariant = { λ a. IsTrue (is_name a.text.bytes) };
 }
 
-// Returns whether a name may contain each of the bytes.
-fn are_plain(bytes: &[u8]) -> bool
-    ensures { result ≡ list_all is_plain bytes.now }
+// Returns whether each of the bytes is from `least` to `~`.
+fn are_plain(bytes: &[u8], least: u8) -> bool
+    ensures { result ≡ list_all (is_plain least) bytes.now }
 {
-    bytes.iter().all(|byte| b'!' <= *byte && *byte <= b'~')
+    bytes.iter().all(|byte| least <= *byte && *byte <= b'~')
 }
 
-// Returns whether the text has the form of a name.
-fn has_name_form(text: &str) -> bool
-    ensures { result ≡ is_name text.now }
+// Returns whether the text has 1 to `most` bytes, each from `least` to `~`.
+fn has_name_form(text: &str, most: usize, least: u8) -> bool
+    ensures { result ≡ is_text_within most least text.now }
 {
     let size = text.len();
-    if size < 1 || size > MAX_NAME {
+    if size < 1 || size > most {
         return false;
     }
-    are_plain(text.as_bytes())
+    are_plain(text.as_bytes(), least)
 }
 
 impl Name {
@@ -55,7 +55,7 @@ impl Name {
         ensures named { IsSome result ↔ IsTrue (is_name text.now) }
         ensures value { IfSome result (λ n. n ≡ text.now) }
     {
-        if !has_name_form(text) {
+        if !has_name_form(text, MAX_NAME, b' ') {
             return None;
         }
         match ArrayString::try_from(text) {
@@ -70,6 +70,13 @@ impl Name {
         ensures named { IsTrue (is_name self.now) }
     {
         self.text.as_str()
+    }
+
+    // Returns whether the versions before 9 have this name: 1 to 32 bytes, each from `!` to `~`.
+    pub(crate) fn is_in_version_8(&self) -> bool
+        ensures { result ≡ is_name_v8 self.now }
+    {
+        has_name_form(self.as_str(), MAX_NAME_V8, b'!')
     }
 
     /// Returns a copy of the name.
