@@ -45,7 +45,8 @@ fn arcs_of<A: Allocator>(
     edges: &[Edge],
 ) -> Result<Vec<Arc, A>, AllocError>
     requires { length vertices.now + length edges.now ≤ max_locations }
-    ensures { IfOk result (λ v. v.items ≡ arcs_from vertices.now (length vertices.now) edges.now) }
+    ensures { IfOk result (λ v. v.items
+        ≡ arcs_from vertices.now (length vertices.now) edges.now) }
 {
     let mut arcs = Vec::new(alloc);
     for (index, edge) in edges.iter().enumerate() {

@@ -116,7 +116,8 @@ fn some_leads_too_deep(most: usize, vertices: &[Vertex], edges: &[Edge]) -> bool
 
 #[tactic(auto, unfolding(crate::specs::Checked::has_depth_mismatch))]
 fn has_depth_mismatch(vertices: &[Vertex], edges: &[Edge]) -> bool
-    ensures { (order : TimeOrder) → result ≡ rule.has_depth_mismatch (graph_of order vertices.now edges.now) }
+    ensures { (order : TimeOrder)
+        → result ≡ rule.has_depth_mismatch (graph_of order vertices.now edges.now) }
 {
     some_is_misplaced(vertices) || some_misses_depth(vertices, edges)
 }
@@ -129,7 +130,8 @@ fn are_too_many(many: usize, vertices: usize, edges: usize) -> bool
 
 #[tactic(auto, unfolding(crate::specs::Checked::is_too_large))]
 fn is_too_large(most: usize, many: usize, vertices: &[Vertex], edges: &[Edge]) -> bool
-    ensures { (order : TimeOrder) → result ≡ rule.is_too_large most many (graph_of order vertices.now edges.now) }
+    ensures { (order : TimeOrder)
+        → result ≡ rule.is_too_large most many (graph_of order vertices.now edges.now) }
 {
     are_too_many(many, vertices.len(), edges.len())
         || some_is_too_deep(most, vertices)
@@ -145,7 +147,8 @@ pub(crate) fn fault_of(
     vertices: &[Vertex],
     edges: &[Edge],
 ) -> Option<GraphFault>
-    ensures { (order : TimeOrder) → result ≡ rule.fault_of most many (graph_of order vertices.now edges.now) }
+    ensures { (order : TimeOrder)
+        → result ≡ rule.fault_of most many (graph_of order vertices.now edges.now) }
 {
     if some_has_bad_port(vertices, edges) {
         Some(GraphFault::BadPort)

@@ -48,7 +48,8 @@ impl<A: Allocator> Model for GraphDraft<A> {
 
     ghost Value = { Draft };
 
-    ghost view = { λ a. record { order = a.order; vertices = a.vertices.items; edges = a.edges.items } };
+    ghost view = { λ a.
+        record { order = a.order; vertices = a.vertices.items; edges = a.edges.items } };
 }
 
 impl<A: Allocator> GraphDraft<A> {
