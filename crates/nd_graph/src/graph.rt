@@ -136,7 +136,8 @@ impl<A: Allocator> Graph<A> {
         depths: Vec<usize, A>,
         arcs: Vec<Arc, A>,
     ) -> Graph<A>
-        requires kept { IsGraph (graph_of order vertices.items edges.items) depths.items arcs.items }
+        requires kept { IsGraph (graph_of order vertices.items edges.items)
+            depths.items arcs.items }
         requires sound { IsFaultless (graph_of order vertices.items edges.items) }
         ensures { result ≡ graph_of order vertices.items edges.items }
     {
