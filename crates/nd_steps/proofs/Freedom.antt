@@ -114,6 +114,6 @@ enabled g decided s (Broadcast p part) is numbers free =
           (λ x l. free (NotAdmissible x) (leaves_alone s.graph q c (minus q.unsent c) (supporting_points s.graph q) refl refl (Some x) l)));
       numbers = numbers;
     }
-enabled g decided s (Release p vertex times) is numbers free = record { free = free; admissible = goes_later times.time times.to (free NotLater); numbers = numbers }
-enabled g decided s (Send p vertex batch) is numbers free = record { free = free; admissible = not_early batch.time (batch_time batch) (free TooEarly); numbers = numbers }
+enabled g decided s (Release p vertex times) is numbers free = record { free = free; admissible = goes_later s.graph.order times.time times.to (free NotLater); numbers = numbers }
+enabled g decided s (Send p vertex batch) is numbers free = record { free = free; admissible = not_early s.graph.order batch.time (batch_time batch) (free TooEarly); numbers = numbers }
 enabled g decided s x is numbers free = record { free = free; admissible = tt; numbers = numbers }
