@@ -41,3 +41,8 @@ module _ (g : Dataflow) (agree : DepthsAgree g) where
   -- a walk that is not empty starts at a location of the graph
   pub starts_inside : (x : Arc) (w : List Arc) (a b : ℕ) → IsWalk g a (x ∷ w) b → a < length (depths g)
   starts_inside x w a b h = subst (λ m. m < length (depths g)) h.1 (All-contains (ArcAgrees (depths g)) (arcs g) x agree h.0).from
+
+  -- a walk from a location of the graph ends at one
+  pub ends_inside : (w : List Arc) (a b : ℕ) → a < length (depths g) → IsWalk g a w b → b < length (depths g)
+  ends_inside [] a b l h = subst (λ n. n < length (depths g)) h l
+  ends_inside (x ∷ w) a b l h = ends_inside w x.to b (All-contains (ArcAgrees (depths g)) (arcs g) x agree h.0).to h.2

@@ -16,5 +16,6 @@ pub mod Fails
 pub mod Minimal
 pub mod Decisions
 pub mod Sharing
+pub mod Times
 pub mod Made
 pub mod Algebra

@@ -1,21 +1,23 @@
 -- The rows of a table, one after the other.
-use Rattle.std.proofs.Common.{◌≡◌, inl, inr, ℕ, ◌+◌, ◌<◌, List, [], ◌∷◌, ◌++◌, length, get_or, sym, ◌∙◌, ap, subst, arith}
-use Rattle.std.specs.Prelude.{All}
+use Rattle.std.proofs.Common.{◌≡◌, inl, inr, ℕ, ◌+◌, ◌<◌, ◌≤◌, List, [], ◌∷◌, ◌++◌, length, get_or, refl, sym, ◌∙◌, ap, subst, arith}
+use Rattle.std.specs.Prelude.{All, slice_index}
 use Rattle.std.proofs.lemmas.Bool.{cases_lt}
 use Rattle.std.proofs.lemmas.List.{get_or_append_left, get_or_default, get_or_push, length-map, length_push}
 use Rattle.nd_graph.specs.Graph.{Dataflow, depths, location_count}
+use Rattle.nd_time.specs.Limits.{max_depth}
 use Rattle.nd_time.specs.declared.order.TimeOrder.{TimeOrder}
 use Rattle.nd_time.specs.declared.order.TimeOrder.TheVariants.{Lexicographic}
 use Rattle.nd_summaries.specs.declared.summary.Summary.{Summary}
 use Rattle.nd_summaries.specs.Walk.{FailsBy}
-use Rattle.nd_summaries.specs.Summary.{AreMinimalSummaries, AreLeastSummaries}
+use Rattle.nd_summaries.specs.Summary.{AreMinimalSummaries, AreLeastSummaries, left_by}
 use Rattle.nd_summaries.specs.Row.{IsRow, listed}
 use Rattle.nd_summaries.specs.Shared.{AreNumbers, Extends, IsIndexed, named}
-use Rattle.nd_summaries.specs.Table.{named_row, IsTable}
+use Rattle.nd_summaries.specs.Table.{named_row, Fit, IsTable}
 use Rattle.nd_summaries.proofs.Graphs.{DepthsAgree, length-depths}
 use Rattle.nd_summaries.proofs.Sharing.{small_on, named_row-on, listed-named}
 use Rattle.nd_summaries.proofs.Fails.{accepted_from_none}
 use Rattle.nd_summaries.proofs.Minimal.{are_minimal, are_least}
+use Rattle.nd_summaries.proofs.Decisions.{all_fit}
 
 -- the rows so far, and that none of their locations fails
 pub record Made (o : TimeOrder) (g : Dataflow) (lists : List (List Summary)) (rows : List (List ℕ)) (n : ℕ) : Type 0 where
@@ -45,9 +47,10 @@ Made-more o g old new rows rows' numbers row n h x k r fine e =
       none = λ a l f. elim (cases_lt a n) [ inl low ↦ h.none a low f | inr up ↦ (let same : a ≡ n = omega arith in fine (subst (λ m. FailsBy o g m) same f)) ];
     })
 
-pub Made-table : (o : TimeOrder) (g : Dataflow) (lists : List (List Summary)) (buckets rows : List (List ℕ)) (n : ℕ) → DepthsAgree g → n ≡ length (depths g) → IsIndexed lists buckets → Made o g lists rows n → IsTable o g lists rows
-Made-table o g lists buckets rows n agree all i h = record {
+pub Made-table : (o : TimeOrder) (g : Dataflow) (lists : List (List Summary)) (buckets rows : List (List ℕ)) (n : ℕ) → DepthsAgree g → All (λ d. d ≤ max_depth) (depths g) → n ≡ length (depths g) → IsIndexed lists buckets → Made o g lists rows n → IsTable o g lists rows
+Made-table o g lists buckets rows n agree shallow all i h = record {
   agree = agree;
+  shallow = shallow;
   accepted = accepted_from_none o g (λ l low. h.none l (omega arith));
   count = h.count ∙ all;
   small = λ a l. h.small a (omega arith);
@@ -71,3 +74,10 @@ pair_list o g lists rows a b numbers list h la lb is is' =
     let there : listed (named_row lists numbers) b ≡ list = listed-named lists numbers b low ∙ sym one in
     let minimal = subst (AreMinimalSummaries o g a b) there (are_minimal o g h.agree a b inside (named_row lists numbers) row) in
     (minimal, λ e. are_least g h.agree a b list (subst (λ u. AreMinimalSummaries u g a b list) e minimal))
+
+-- its summaries fit the depths of the pair
+pub pair_fits : (o : TimeOrder) (g : Dataflow) (lists : List (List Summary)) (rows : List (List ℕ)) (a b : ℕ) (list : List Summary) → IsTable o g lists rows → b < location_count g → AreMinimalSummaries o g a b list → All (Fit (slice_index (depths g) a) (slice_index (depths g) b)) list × All (λ s. left_by s ≤ max_depth) list
+pair_fits o g lists rows a b list h lb minimal =
+    let inside : b < length (depths g) = omega (arith, lb, length-depths g) in
+    let fits = all_fit o g h.agree a b list minimal (slice_index (depths g) a) (slice_index (depths g) b) refl refl in
+    (fits, λ k d l. omega (arith, (fits k d l).1, h.shallow b 0 inside))

@@ -243,3 +243,35 @@ order_trans Product a b c h k = each_trans a b c h k
 pub order_lexical : (o : TimeOrder) (a b : List ℕ) → AreAtMost o a b → IsLexicallyAtMost a b
 order_lexical Lexicographic a b h = h
 order_lexical Product a b h = lexical_from_each a b h
+
+pub order_antisym : (o : TimeOrder) (a b : List ℕ) → AreAtMost o a b → AreAtMost o b a → a ≡ b
+order_antisym o a b h k = most_antisym a b (order_lexical o a b h) (order_lexical o b a k)
+
+each_or_not : (a b : List ℕ) → length a ≡ length b → IsEachAtMost a b ⊎ (IsEachAtMost a b → ⊥)
+each_or_not [] [] e = inl tt
+each_or_not [] (y ∷ b) e = absurd (omega arith)
+each_or_not (x ∷ a) [] e = absurd (omega arith)
+each_or_not (x ∷ a) (y ∷ b) e =
+    elim (cases_lt y x) [
+      | inl l ↦ inr (λ h. omega (arith, h.0, l))
+      | inr l ↦ elim (each_or_not a b (omega arith)) [ inl p ↦ inl (omega arith, p) | inr n ↦ inr (λ h. n h.1) ]
+    ]
+
+pub order_or_not : (o : TimeOrder) (a b : List ℕ) → length a ≡ length b → AreAtMost o a b ⊎ (AreAtMost o a b → ⊥)
+order_or_not Lexicographic a b e =
+    elim (compared a b e) [ inl p ↦ inl p | inr p ↦ inr (λ k. smaller_irrefl b (then_at b a b p k)) ]
+order_or_not Product a b e = each_or_not a b e
+
+order_act : (o : TimeOrder) (x : Action) (a b : List ℕ) → length a ≡ length b → AreAtMost o a b → AreAtMost o (acted x a) (acted x b)
+order_act Lexicographic x a b e h = act_mono x a b e h
+order_act Product x a b e h = each_act x a b h
+
+-- walks keep the order, and the number of counters after a walk depends only on their number before it
+pub order_effect : (o : TimeOrder) (w : List Arc) (a b : List ℕ) → length a ≡ length b → AreAtMost o a b → AreAtMost o (effect w a) (effect w b)
+order_effect o [] a b e h = h
+order_effect o (x ∷ w) a b e h =
+    order_effect o w (acted x.action a) (acted x.action b) (length-acted x.action a b e) (order_act o x.action a b e h)
+
+pub same_depth : (w : List Arc) (a b : List ℕ) → length a ≡ length b → length (effect w a) ≡ length (effect w b)
+same_depth [] a b e = e
+same_depth (x ∷ w) a b e = same_depth w (acted x.action a) (acted x.action b) (length-acted x.action a b e)

@@ -1,6 +1,7 @@
 -- The table of an accepted graph.
 use Rattle.std.specs.Prelude.{◌≡◌, ◌≢◌, ℕ, ◌+◌, ◌<◌, ◌≤◌, All, Contains, List, [], length, map, slice_index_or}
 use Rattle.std.specs.List.{AllPairs}
+use Rattle.nd_time.specs.Limits.{max_depth}
 use Rattle.nd_graph.specs.Graph.{ArcAgrees, Dataflow, arcs, depths}
 use Rattle.nd_time.specs.declared.order.TimeOrder.{TimeOrder}
 use Rattle.nd_summaries.specs.declared.summary.Summary.{Summary}
@@ -14,10 +15,11 @@ use Rattle.nd_summaries.specs.Shared.{named}
 abbrev pub named_row : List (List Summary) → List ℕ → List (List Summary)
 named_row lists numbers = map (λ n. named lists n) numbers
 
--- the graph is accepted, no list stands twice, and for each location there is a row of numbers, which name the minimal summaries of
--- its walks
+-- the graph is accepted and not too deep, no list stands twice, and for each location there is a row of numbers, which name the
+-- minimal summaries of its walks
 pub record IsTable (o : TimeOrder) (g : Dataflow) (lists : List (List Summary)) (rows : List (List ℕ)) : Type 0 where
   pub agree : All (ArcAgrees (depths g)) (arcs g)
+  pub shallow : All (λ d. d ≤ max_depth) (depths g)
   pub accepted : IsAcceptedBy o g
   pub count : length rows ≡ length (depths g)
   pub small : (a : ℕ) → a < length (depths g) → All (λ n. n < length lists) (slice_index_or rows a [])

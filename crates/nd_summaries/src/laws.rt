@@ -1,10 +1,12 @@
 //! The laws of summaries and of accepted graphs.
-ghost use Rattle.std.specs.Prelude.{◌↔◌, ◌<◌, ℕ, List, ◌∷◌};
+ghost use Rattle.std.specs.Prelude.{◌≡◌, ◌↔◌, ◌<◌, ℕ, List, ◌∷◌, length};
 ghost use Rattle.nd_graph.specs.declared.graph.Arc.{Arc as GraphArc};
-ghost use Rattle.nd_graph.specs.Graph.{location_count};
+ghost use Rattle.nd_graph.specs.Graph.{location_count, Dataflow};
+ghost use Rattle.nd_time.specs.Time.{Time};
 ghost use Rattle.nd_time.specs.declared.order.TimeOrder.{TimeOrder};
 ghost use Rattle.nd_summaries.specs.Laws.{HasShortWalk};
 ghost use Rattle.nd_summaries.specs.Walk.{IsWalk, TurnsBack, PassesFeedback, FailsBy, least_depth};
+ghost use Rattle.nd_summaries.specs.Walk.{HasDepth, IsAcceptedBy, LeadsBefore};
 
 use nd_graph::Graph;
 use std::alloc::Allocator;
@@ -31,3 +33,15 @@ pub fn short_walks_suffice<A: Allocator>(graph: &Graph<A>)
 {
     let _ = graph.all_arcs();
 }
+
+/// States that times at the locations of a graph are ordered by which could result in which: each in itself, in all that
+/// one could result in which it could, and, if the graph is accepted, no two in each other. The function has no code.
+pub fn times_are_ordered()
+    ensures reflexive { (order : TimeOrder) (g : Dataflow) (l : ℕ) (s : Time)
+        → HasDepth g l (length s.counters) → LeadsBefore order g l s l s }
+    ensures transitive { (order : TimeOrder) (g : Dataflow) (k l m : ℕ) (s t u : Time)
+        → LeadsBefore order g k s l t → LeadsBefore order g l t m u → LeadsBefore order g k s m u }
+    ensures antisymmetric { (order : TimeOrder) (g : Dataflow) (k l : ℕ) (s t : Time)
+        → IsAcceptedBy order g → LeadsBefore order g k s l t → LeadsBefore order g l t k s
+        → (k ≡ l) × (s ≡ t) }
+{}

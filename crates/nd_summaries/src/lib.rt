@@ -14,6 +14,6 @@ mod summary;
 mod table;
 
 pub use accept::PathFault;
-pub use laws::{closed_walks_fail_alike, short_walks_suffice};
+pub use laws::{closed_walks_fail_alike, short_walks_suffice, times_are_ordered};
 pub use summaries::Summaries;
 pub use summary::{Constants, Summary};

@@ -5,11 +5,11 @@ ghost use Rattle.nd_graph.specs.Graph.{arcs as arcs_of, depths as depths_of};
 ghost use Rattle.nd_summaries.specs.Steps.{keeps};
 ghost use Rattle.nd_summaries.specs.Row.{listed, CanFollow, Reaches, IsRound, IsRow};
 
+use crate::Summary;
 use crate::list::SummaryList;
 use crate::outgoing::Outgoing;
-use crate::Summary;
-use nd_time::TimeOrder;
 use nd_graph::Graph;
+use nd_time::TimeOrder;
 use nd_time::limits::MAX_DEPTH;
 use std::alloc::{AllocError, Allocator};
 

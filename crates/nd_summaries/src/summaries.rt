@@ -1,18 +1,22 @@
 //! The minimal summaries of the walks between all locations of an accepted graph.
-ghost use Rattle.std.specs.Prelude.{◌≡◌, ◌<◌, ◌↔◌, IsTrue, IfOk, IfErr, List};
+ghost use Rattle.std.specs.Prelude.{◌≡◌, ◌<◌, ◌≤◌, ◌↔◌, ◌⊎◌, ℕ, All, IsTrue, IfOk, IfErr, List, length, slice_index};
 ghost use Rattle.nd_graph.specs.declared.graph.Arc.{Arc};
-ghost use Rattle.nd_graph.specs.Graph.{location_count};
+ghost use Rattle.nd_graph.specs.Graph.{location_count, depths as depths_of};
+ghost use Rattle.nd_time.specs.Limits.{max_depth};
+ghost use Rattle.nd_time.specs.Time.{Time};
 ghost use Rattle.nd_time.specs.declared.order.TimeOrder.TheVariants.{Lexicographic};
-ghost use Rattle.nd_summaries.specs.Walk.{LeadsBefore, IsAcceptedBy, IsWalk};
-ghost use Rattle.nd_summaries.specs.Summary.{AreMinimalSummaries, AreLeastSummaries};
+ghost use Rattle.nd_summaries.specs.Walk.{LeadsBefore, IsAcceptedBy, IsWalk, HasDepth, effect};
+ghost use Rattle.nd_summaries.specs.declared.summary.Summary.{Summary};
+ghost use Rattle.nd_summaries.specs.Summary.{AreMinimalSummaries, AreLeastSummaries, left_by};
 ghost use Rattle.nd_summaries.specs.Fault.{IsFault};
-ghost use Rattle.nd_summaries.specs.Table.{IsTable};
+ghost use Rattle.nd_summaries.specs.Table.{Fit, IsTable};
+ghost use Rattle.nd_summaries.specs.Laws.{SomeTurns};
 
+use crate::Summary;
 use crate::accept::PathFault;
 use crate::list::SummaryList;
 use crate::numbers::Numbers;
 use crate::table::{Table, has_depth, leads_among, table_of};
-use crate::Summary;
 use nd_graph::Graph;
 use nd_time::Timestamp;
 use std::alloc::{Allocator, Global};
@@ -80,6 +84,9 @@ impl<A: Allocator> Summaries<A> {
         ensures minimal { AreMinimalSummaries self.now.order self.now from to result.now }
         ensures least { self.now.order ≡ Lexicographic
             → AreLeastSummaries self.now from to result.now }
+        ensures fit { All (Fit (slice_index (depths_of self.now) from)
+            (slice_index (depths_of self.now) to)) result.now }
+        ensures few { All (λ s. left_by s ≤ max_depth) result.now }
     {
         self.lists[self.rows[from].as_slice()[to] as usize].as_slice()
     }
@@ -110,5 +117,32 @@ impl<A: Allocator> Summaries<A> {
             t.counters(),
             self.graph.order(),
         )
+    }
+    /// States that one time could result in another, or could not.
+    pub fn order_is_decided(&self)
+        ensures { (from to : ℕ) (s t : Time) → LeadsBefore self.now.order self.now from s to t
+            ⊎ (LeadsBefore self.now.order self.now from s to t → ⊥) }
+    {
+        let _ = &self.graph;
+    }
+
+    /// States that a time could result in the one into which a walk turns it, at the end of the walk.
+    pub fn walks_lead_on(&self)
+        ensures { (from to : ℕ) (walk : List Arc) (s : Time)
+            → HasDepth self.now from (length s.counters) → IsWalk self.now from walk to
+            → LeadsBefore self.now.order self.now from s to
+            (record { epoch = s.epoch; counters = effect walk s.counters }) }
+    {
+        let _ = &self.graph;
+    }
+
+    /// States that minimal summaries decide the order: if one time could result in another, one of the summaries turns the
+    /// first into a time at or before the other.
+    pub fn summaries_decide(&self)
+        ensures { (from to : ℕ) (list : List Summary) (s t : Time)
+            → AreMinimalSummaries self.now.order self.now from to list
+            → LeadsBefore self.now.order self.now from s to t → SomeTurns self.now.order list s t }
+    {
+        let _ = &self.graph;
     }
 }

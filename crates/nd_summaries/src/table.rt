@@ -6,13 +6,13 @@ ghost use Rattle.nd_summaries.specs.Walk.{HasDepth};
 ghost use Rattle.nd_summaries.specs.Fault.{IsFault};
 ghost use Rattle.nd_summaries.specs.Table.{IsTable, SomeLeads, Fit};
 
+use crate::Summary;
 use crate::accept::{PathFault, shows_fail};
 use crate::list::SummaryList;
 use crate::numbers::Numbers;
 use crate::outgoing::Outgoing;
 use crate::row::row_of;
 use crate::shared::Shared;
-use crate::Summary;
 use nd_graph::Graph;
 use nd_time::{TimeOrder, Timestamp};
 use std::alloc::{Allocator, Global};
@@ -24,10 +24,7 @@ pub struct Table<A: Allocator = Global> {
 }
 
 /// Returns the table of a graph, or the least location from which a closed walk fails.
-pub fn table_of<A: Allocator + Copy>(
-    alloc: A,
-    graph: &Graph<A>,
-) -> Result<Table<A>, PathFault>
+pub fn table_of<A: Allocator + Copy>(alloc: A, graph: &Graph<A>) -> Result<Table<A>, PathFault>
     ensures table { IfOk result (λ t. IsTable graph.now.order graph.now t.lists.items t.rows.items) }
     ensures fault { IfErr result (λ e. IsFault graph.now e) }
 {

@@ -18,6 +18,6 @@ decided b n P is from to =
 pub returns : goal.returns
 returns g c =
     let h = c.summaries.ensures.minimal in
-    decided c.is_empty.result (length c.summaries.result.now) ((w : List Arc) × IsWalk c.args.self.now.graph c.args.from w c.args.to) c.is_empty.ensures
-    (λ low. walk_from_list c.args.self.now.order c.args.self.now.graph c.args.from c.args.to c.summaries.result.now h 0 low)
-    (λ walk. list_from_walk c.args.self.now.order c.args.self.now.graph c.args.from c.args.to c.summaries.result.now h walk)
+    decided c.is_empty.result (length c.summaries.result.now) ((w : List Arc) × IsWalk c.args.self.now c.args.from w c.args.to) c.is_empty.ensures
+    (λ low. walk_from_list c.args.self.now.order c.args.self.now c.args.from c.args.to c.summaries.result.now h 0 low)
+    (λ walk. list_from_walk c.args.self.now.order c.args.self.now c.args.from c.args.to c.summaries.result.now h walk)
