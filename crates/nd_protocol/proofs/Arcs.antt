@@ -1,10 +1,13 @@
 -- An arc of an ordered graph turns a pointstamp into one that is strictly later, and that fits.
-use Rattle.std.proofs.Common.{◌≡◌, ◌≢◌, inl, ℕ, zero, suc, ◌+◌, ◌-◌, ◌<◌, ◌≤◌, List, [], ◌∷◌, ◌++◌, Some, length, refl, sym, ◌∙◌, ap, subst, arith, length-append}
+use Rattle.std.proofs.Common.{◌≡◌, ◌≢◌, inl, ℕ, zero, suc, ◌+◌, ◌-◌, ◌<◌, ◌≤◌, List, [], ◌∷◌, Some, length, refl, sym, ◌∙◌, ap, subst, arith, length-append}
 use Rattle.std.specs.Prelude.{Contains, slice_index, slice_get}
 use Rattle.std.specs.Option.{option_map_or}
 use Rattle.std.proofs.lemmas.List.Elements.{All-contains}
 use Rattle.std.proofs.lemmas.List.{length-map}
-use Rattle.nd_time.specs.Time.{Time, IsAtOrBefore, IsSmallerAtFirstDifference, egress_of, feedback_of}
+use Rattle.nd_time.specs.Time.{Time, egress_of, feedback_of}
+use Rattle.nd_time.specs.Order.{IsEachAtMost, AreAtMost, IsAtOrBeforeBy}
+use Rattle.nd_time.specs.declared.order.TimeOrder.{TimeOrder}
+use Rattle.nd_time.specs.declared.order.TimeOrder.TheVariants.{Lexicographic, Product}
 use Rattle.nd_graph.specs.declared.op.Action.{Action}
 use Rattle.nd_graph.specs.declared.op.Action.TheVariants.{Identity, Ingress, Egress, Feedback}
 use Rattle.nd_graph.specs.declared.graph.Arc.{Arc}
@@ -19,16 +22,14 @@ use Rattle.nd_protocol.specs.Steps.{target_of, point_at}
 use Rattle.nd_protocol.proofs.Core.{IsStrictOrder}
 use Rattle.nd_protocol.specs.Fitting.{IsOrdered}
 
--- no list is smaller than itself
-apart : (common : List ℕ) (x y : ℕ) (xs ys : List ℕ) → common ++ x ∷ xs ≡ common ++ y ∷ ys → x ≡ y
-apart [] x y xs ys e = cc
-apart (c ∷ common) x y xs ys e = apart common x y xs ys (cc)
+-- counters are at most themselves, in both orders
+each_itself : (c : List ℕ) → IsEachAtMost c c
+each_itself [] = tt
+each_itself (x ∷ c) = (omega arith, each_itself c)
 
-not_itself : (c : List ℕ) → IsSmallerAtFirstDifference c c → ⊥
-not_itself c d =
-    let one : d.x ≡ d.y = apart d.common d.x d.y d.xs_rest d.ys_rest (sym d.xs_is ∙ d.ys_is) in
-    let less : d.x < d.y = d.smaller in
-    omega arith
+at_most_itself : (order : TimeOrder) (c : List ℕ) → AreAtMost order c c
+at_most_itself Lexicographic c = inl refl
+at_most_itself Product c = each_itself c
 
 pub depth_within : (g : Dataflow) (l d : ℕ) → HasDepth g l d → (l < length (depths g)) × (d ≡ slice_index (depths g) l)
 depth_within g l d h = (slice_get_within (depths g) l d h, sym (get_or_from_slice_get (depths g) l d 0 h))
@@ -84,16 +85,17 @@ pub along : (g : Dataflow) → IsOrdered g → (a : Arc) → Contains (arcs g) a
 along g o a in_graph t f =
     let there : Fits g (point_at a.to (past a.action t)) = arc_fits g o a in_graph t f in
     let leads : IsWalk g a.from (a ∷ []) a.to = (in_graph, refl, refl) in (
-      record { fits_s = f; fits_t = there; walk = a ∷ []; leads = leads; before = record { depth = refl; epoch = omega arith; counters = inl refl } },
+      record { fits_s = f; fits_t = there; walk = a ∷ []; leads = leads; before = record { depth = refl; epoch = omega arith; counters = at_most_itself g.order (acted a.action t.counters) } },
       λ e.
           let place : a.from ≡ a.to = ap (λ x. x.location) e in
           let counters : t.counters ≡ acted a.action t.counters = ap (λ x. x.time.counters) e in
           let round : IsWalk g a.from (a ∷ []) a.from = subst (λ l. IsWalk g a.from (a ∷ []) l) (sym place) leads in
-          not_itself t.counters (subst (λ c. IsSmallerAtFirstDifference t.counters c) (sym counters) (o.accepted.strict a.from a [] t.counters round f.depth)),
+          let back : AreAtMost g.order (acted a.action t.counters) t.counters = subst (λ c. AreAtMost g.order c t.counters) counters (at_most_itself g.order t.counters) in
+          o.accepted.strict a.from (record { arc = a; walk = []; closed = round; back = record { counters = t.counters; depth = f.depth; back = back } }),
     )
 
 -- along an arc that leaves times as they are, to any time at or after
-pub along_later : (g : Dataflow) → IsOrdered g → (a : Arc) → Contains (arcs g) a → a.action ≡ Identity → (t to : Time) → IsAtOrBefore t to → Fits g (point_at a.from t) → IsStrictlyBefore g (point_at a.from t) (point_at a.to to)
+pub along_later : (g : Dataflow) → IsOrdered g → (a : Arc) → Contains (arcs g) a → a.action ≡ Identity → (t to : Time) → IsAtOrBeforeBy g.order t to → Fits g (point_at a.from t) → IsStrictlyBefore g (point_at a.from t) (point_at a.to to)
 along_later g o a in_graph plain t to before f =
     let step : IsStrictlyBefore g (point_at a.from t) (point_at a.to t) = subst (λ c. IsStrictlyBefore g (point_at a.from t) (point_at a.to (past c t))) plain (along g o a in_graph t f) in (
       record {
@@ -101,20 +103,20 @@ along_later g o a in_graph plain t to before f =
         fits_t = record { depth = subst (HasDepth g a.to) before.depth step.0.fits_t.depth };
         walk = a ∷ [];
         leads = (in_graph, refl, refl);
-        before = subst (λ c. IsAtOrBefore (past c t) to) (sym plain) before;
+        before = subst (λ c. IsAtOrBeforeBy g.order (past c t) to) (sym plain) before;
       },
       λ e. step.1 (ap (λ x. point_at x.location t) e),
     )
 
 -- the same location at a later time
-pub later_time : (g : Dataflow) (l : ℕ) (t to : Time) → IsAtOrBefore t to → t ≢ to → Fits g (point_at l t) → IsStrictlyBefore g (point_at l t) (point_at l to)
+pub later_time : (g : Dataflow) (l : ℕ) (t to : Time) → IsAtOrBeforeBy g.order t to → t ≢ to → Fits g (point_at l t) → IsStrictlyBefore g (point_at l t) (point_at l to)
 later_time g l t to before other f =
     (record { fits_s = f; fits_t = record { depth = subst (HasDepth g l) before.depth f.depth }; walk = []; leads = refl; before = before }, λ same. other (ap (λ x. x.time) same))
 
 -- the same location at a later epoch
 pub later_epoch : (g : Dataflow) (l e to : ℕ) (c : List ℕ) → e < to → Fits g (point_at l (record { epoch = e; counters = c })) → IsStrictlyBefore g (point_at l (record { epoch = e; counters = c })) (point_at l (record { epoch = to; counters = c }))
 later_epoch g l e to c less f =
-    later_time g l (record { epoch = e; counters = c }) (record { epoch = to; counters = c }) (record { depth = refl; epoch = omega arith; counters = inl refl })
+    later_time g l (record { epoch = e; counters = c }) (record { epoch = to; counters = c }) (record { depth = refl; epoch = omega arith; counters = at_most_itself g.order c })
     (λ same. let epochs : e ≡ to = ap (λ x. x.epoch) same in absurd (omega arith)) f
 
 -- ---- the arcs of the graph

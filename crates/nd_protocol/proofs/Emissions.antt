@@ -3,7 +3,8 @@ use Rattle.std.proofs.Common.{◌≡◌, ℕ, ◌+◌, ◌≤◌, ℤ, true, fal
 use Rattle.std.proofs.lemmas.Bool.{and_parts}
 use Rattle.std.proofs.lemmas.Bool.Decides.{nat_tests}
 use Rattle.std.specs.Prelude.{Contains, nat_eq, slice_get, Option, Some, None}
-use Rattle.nd_time.specs.Time.{Time, IsAtOrBefore}
+use Rattle.nd_time.specs.Time.{Time}
+use Rattle.nd_time.specs.Order.{IsAtOrBeforeBy}
 use Rattle.nd_graph.specs.declared.op.Action.TheVariants.{Identity}
 use Rattle.nd_graph.specs.declared.graph.Arc.{Arc}
 use Rattle.nd_graph.specs.declared.graph.Edge.{Edge}
@@ -60,7 +61,7 @@ emitted_later g o n p vertex t fits e =
     subst₂ (λ l c. IsStrictlyBefore g (point_at l t) (point_at a.to (past c t))) from (action ∙ action_is g vertex) (along g o a inside t (subst (λ l. Fits g (point_at l t)) (sym from) fits)))
 
 -- what is sent from a capability, at a time at or after its own, if the vertex leaves times as they are
-pub posts_later : {A : Type 0} (g : Dataflow) → IsOrdered g → (n p vertex : ℕ) (b : Batch A) → action_of (op_at g vertex) ≡ Identity → IsAtOrBefore b.time (batch_time b) → Fits g (point_at vertex b.time)
+pub posts_later : {A : Type 0} (g : Dataflow) → IsOrdered g → (n p vertex : ℕ) (b : Batch A) → action_of (op_at g vertex) ≡ Identity → IsAtOrBeforeBy g.order b.time (batch_time b) → Fits g (point_at vertex b.time)
     → (v : ℤ) → AllAt (IsStrictlyBefore g (point_at vertex b.time)) (posts g n p vertex b v)
 posts_later g o n p vertex b plain before fits v =
     made_later (IsStrictlyBefore g (point_at vertex b.time)) b.dest n p vertex b.port v (batch_time b) g.vertices (length g.vertices) g.edges (λ a inside from action.

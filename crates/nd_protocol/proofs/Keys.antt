@@ -240,14 +240,14 @@ fed_fits g q vertex epoch here next room fit = record {
 }
 
 -- the location of a request does not depend on the time
-other_time : (g : Dataflow) (vertex : ℕ) (t : Time) (to : Later) → GoesLater t (Some to) → TimesAreSmall t (Some to) → IsAtVertex g (point_at vertex t) → IsAtVertex g (point_at vertex to.time)
+other_time : (g : Dataflow) (vertex : ℕ) (t : Time) (to : Later) → GoesLater g.order t (Some to) → TimesAreSmall t (Some to) → IsAtVertex g (point_at vertex t) → IsAtVertex g (point_at vertex to.time)
 other_time g vertex t to later small h = record { place = h.place; fits = record { depth = subst (HasDepth g vertex) later.0.depth h.fits.depth }; small = small.1 }
 
 kept_or_removed : (keep : Bool) (m : Requests) (k z : Pointstamp) → fin.get (cond keep m (fin.remove m k)) z ≡ Some tt → fin.get m z ≡ Some tt
 kept_or_removed true m k z found = found
 kept_or_removed false m k z found = removed_is point_total point_exact m k z tt found
 
-request_moved : (g : Dataflow) (m : Requests) (vertex : ℕ) (t : Time) (to : Option Later) → GoesLater t to → TimesAreSmall t to → IsAtVertex g (point_at vertex t)
+request_moved : (g : Dataflow) (m : Requests) (vertex : ℕ) (t : Time) (to : Option Later) → GoesLater g.order t to → TimesAreSmall t to → IsAtVertex g (point_at vertex t)
     → ((z : Pointstamp) → fin.get m z ≡ Some tt → IsAtVertex g z) → (z : Pointstamp) → fin.get (moved_request m vertex t to) z ≡ Some tt → IsAtVertex g z
 request_moved g m vertex t None later small place old z found = old z (removed_is point_total point_exact m (point_at vertex t) z tt found)
 request_moved g m vertex t (Some to) later small place old z found =
@@ -256,7 +256,7 @@ request_moved g m vertex t (Some to) later small place old z found =
       | inr there ↦ old z (kept_or_removed to.keep m (point_at vertex t) z there)
     ]
 
-pub released_fits : (g : Dataflow) (q : ProcessorState) (vertex : ℕ) (t : Time) (to : Option Later) → GoesLater t to → TimesAreSmall t to → IsAtVertex g (point_at vertex t) → ProcessorFits g q
+pub released_fits : (g : Dataflow) (q : ProcessorState) (vertex : ℕ) (t : Time) (to : Option Later) → GoesLater g.order t to → TimesAreSmall t to → IsAtVertex g (point_at vertex t) → ProcessorFits g q
     → ProcessorFits g (record q { requests = moved_request q.requests vertex t to })
 released_fits g q vertex t to later small place fit = record {
   records = fit.records;

@@ -46,7 +46,7 @@ goes_on g false m y w found on =
       others = λ z. elim (point_cases z y) [ inl same ↦ inr (same, gone) | inr apart ↦ inl (omega (arith, less z, kept z)) ];
     }
 
-request_moves : (g : Dataflow) (m : Requests) (vertex : ℕ) (t : Time) (to : Option Later) → fin.get m (point_at vertex t) ≡ Some tt → Fits g (point_at vertex t) → GoesLater t to → IsMoved g (is_kept to ≡ true) m (moved_request m vertex t to) (point_at vertex t)
+request_moves : (g : Dataflow) (m : Requests) (vertex : ℕ) (t : Time) (to : Option Later) → fin.get m (point_at vertex t) ≡ Some tt → Fits g (point_at vertex t) → GoesLater g.order t to → IsMoved g (is_kept to ≡ true) m (moved_request m vertex t to) (point_at vertex t)
 request_moves g m vertex t None found fits later =
     let y : Pointstamp = point_at vertex t in
     let less : (z : Pointstamp) → in_requests (fin.remove m y) z + one_at y z ≡ in_requests m z = λ z. in_requests-remove m y z found in

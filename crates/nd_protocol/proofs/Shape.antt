@@ -24,7 +24,8 @@ use Rattle.nd_protocol.specs.Times.{GoesLater, is_kept}
 use Rattle.nd_protocol.specs.declared.times.Times.{Times}
 use Rattle.nd_protocol.specs.declared.batch.Batch.{Batch}
 use Rattle.nd_protocol.specs.Enabled.{IsInRange}
-use Rattle.nd_time.specs.Time.{Time, IsAtOrBefore, last_of}
+use Rattle.nd_time.specs.Time.{Time, last_of}
+use Rattle.nd_time.specs.Order.{IsAtOrBeforeBy}
 use Rattle.nd_protocol.specs.declared.step.Next.{Next as Afterwards}
 use Rattle.nd_protocol.specs.declared.step.Next.TheVariants as token
 
@@ -77,8 +78,8 @@ abbrev pub FitsTypes : ClusterState → Work → Type 0
 FitsTypes s (feeding p vertex values next) = All IsValue values × GoesOn next (epoch_of s p vertex)
 FitsTypes s (taking p edge t value) = (op_at s.graph (target_of s.graph edge) ≡ op.Feedback → last_of t.counters < max_counter) × IsInRange (take_outcome s p edge t value)
 FitsTypes s (noticing p vertex t) = Unit {0}
-FitsTypes s (releasing p vertex times) = GoesLater times.time times.to × TimesAreSmall times.time times.to × (is_kept times.to ≡ true → (facts (op_at s.graph vertex)).supports ≡ true)
-FitsTypes s (sending p vertex batch) = ((facts (op_at s.graph vertex)).supports ≡ true) × IsAtOrBefore batch.time (batch_time batch) × TimeIsSmall (batch_time batch) × All IsValue batch.values
+FitsTypes s (releasing p vertex times) = GoesLater s.graph.order times.time times.to × TimesAreSmall times.time times.to × (is_kept times.to ≡ true → (facts (op_at s.graph vertex)).supports ≡ true)
+FitsTypes s (sending p vertex batch) = ((facts (op_at s.graph vertex)).supports ≡ true) × IsAtOrBeforeBy s.graph.order batch.time (batch_time batch) × TimeIsSmall (batch_time batch) × All IsValue batch.values
 
 -- what a step needs, among all that makes it enabled
 pub record IsPossible (s : ClusterState) (x : Work) : Type 0 where

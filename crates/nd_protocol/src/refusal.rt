@@ -6,7 +6,8 @@ use nd_paths::Pointstamp;
 use nd_time::Code;
 use thiserror::Error;
 
-/// Why a step is refused. Refusals are tested in the order of their numbers, except that `Memory` comes last.
+/// Why a step is refused. Refusals are tested in the order of their numbers, except that `Memory` comes last. `NotLater`
+/// and `TooEarly` compare times by the timestamp order of the graph.
 #[derive(Debug, PartialEq, Eq, Drop, Error)]
 pub enum Refusal {
     #[error("there is no such processor")]

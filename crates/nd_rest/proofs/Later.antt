@@ -8,7 +8,10 @@ use Rattle.std.proofs.lemmas.List.Elements.{All-contains}
 use Rattle.std.proofs.lemmas.List.{length-map}
 use Rattle.std.proofs.lemmas.Option.{slice_get_within, slice_get-get_or, get_or_from_slice_get}
 use Rattle.std.proofs.lemmas.Map.Views.{tells_apart}
-use Rattle.nd_time.specs.Time.{Time, IsSmallerAtFirstDifference, egress_of, feedback_of}
+use Rattle.nd_time.specs.Time.{Time, egress_of, feedback_of}
+use Rattle.nd_time.specs.Order.{IsEachAtMost, AreAtMost}
+use Rattle.nd_time.specs.declared.order.TimeOrder.{TimeOrder}
+use Rattle.nd_time.specs.declared.order.TimeOrder.TheVariants.{Lexicographic, Product}
 use Rattle.nd_graph.specs.declared.op.Action.{Action}
 use Rattle.nd_graph.specs.declared.op.Action.TheVariants.{Identity, Ingress, Egress, Feedback}
 use Rattle.nd_graph.specs.declared.op.Op.TheVariants.{Sink}
@@ -33,16 +36,14 @@ use Rattle.nd_protocol.specs.TruthLaws.{count, count-set_same}
 
 -- ---- one arc
 
--- no list is smaller than itself
-differs : (common : List ℕ) (x y : ℕ) (xs ys : List ℕ) → common ++ x ∷ xs ≡ common ++ y ∷ ys → x ≡ y
-differs [] x y xs ys e = cc
-differs (c ∷ common) x y xs ys e = differs common x y xs ys (cc)
+-- counters are at most themselves, in both orders
+each_itself : (c : List ℕ) → IsEachAtMost c c
+each_itself [] = tt
+each_itself (x ∷ c) = (omega arith, each_itself c)
 
-not_itself : (c : List ℕ) → IsSmallerAtFirstDifference c c → ⊥
-not_itself c d =
-    let one : d.x ≡ d.y = differs d.common d.x d.y d.xs_rest d.ys_rest (sym d.xs_is ∙ d.ys_is) in
-    let less : d.x < d.y = d.smaller in
-    omega arith
+at_most_itself : (order : TimeOrder) (c : List ℕ) → AreAtMost order c c
+at_most_itself Lexicographic c = inl refl
+at_most_itself Product c = each_itself c
 
 depth_within : (g : Dataflow) (l d : ℕ) → HasDepth g l d → (l < length (depths g)) × (d ≡ slice_index (depths g) l)
 depth_within g l d h = (slice_get_within (depths g) l d h, sym (get_or_from_slice_get (depths g) l d 0 h))
@@ -82,12 +83,13 @@ along : (g : Dataflow) → IsOrdered g → (a : Arc) → Contains (arcs g) a →
 along g o a in_graph t f =
     let there : Fits g (point_at a.to (past a.action t)) = arc_fits g o a in_graph t f in
     let leads : IsWalk g a.from (a ∷ []) a.to = (in_graph, refl, refl) in (
-      record { fits_s = f; fits_t = there; walk = a ∷ []; leads = leads; before = record { depth = refl; epoch = omega arith; counters = inl refl } },
+      record { fits_s = f; fits_t = there; walk = a ∷ []; leads = leads; before = record { depth = refl; epoch = omega arith; counters = at_most_itself g.order (acted a.action t.counters) } },
       λ e.
           let place : a.from ≡ a.to = ap (λ x. x.location) e in
           let counters : t.counters ≡ acted a.action t.counters = ap (λ x. x.time.counters) e in
           let round : IsWalk g a.from (a ∷ []) a.from = subst (λ l. IsWalk g a.from (a ∷ []) l) (sym place) leads in
-          not_itself t.counters (subst (λ c. IsSmallerAtFirstDifference t.counters c) (sym counters) (o.accepted.strict a.from a [] t.counters round f.depth)),
+          let back : AreAtMost g.order (acted a.action t.counters) t.counters = subst (λ c. AreAtMost g.order c t.counters) counters (at_most_itself g.order t.counters) in
+          o.accepted.strict a.from (record { arc = a; walk = []; closed = round; back = record { counters = t.counters; depth = f.depth; back = back } }),
     )
 
 -- ---- the arcs of the graph
