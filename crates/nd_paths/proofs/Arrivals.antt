@@ -1,100 +1,55 @@
--- The times into which the summaries held for a location turn a time are those of the least walks.
-use Rattle.std.proofs.Common.{◌≡◌, ℕ, ◌+◌, ◌<◌, ◌≤◌, Option, Some, None, List, [], ◌∷◌, ◌++◌, length, refl, sym, ◌∙◌, ap, subst, arith, inl, inr}
-use Rattle.std.specs.Prelude.{All, Contains, Vec, slice_index}
-use Rattle.std.proofs.lemmas.Bool.{cases_lt}
-use Rattle.std.proofs.lemmas.List.{length_push}
-use Rattle.std.proofs.lemmas.List.Elements.{All-push, Contains-append_left, Contains-push}
+-- The times into which minimal summaries turn a time are those of walks, and the minimal ones are among them.
+use Rattle.std.proofs.Common.{◌≡◌, ◌<◌, ℕ, zero, suc, Some, List, [], ◌∷◌, length, map, get_or, sym, ◌∙◌, ap, subst, arith}
+use Rattle.std.specs.Prelude.{All, Contains, slice_index}
+use Rattle.std.proofs.lemmas.List.Elements.{All-map}
+use Rattle.std.proofs.lemmas.Option.{slice_get_within, get_or_from_slice_get}
 use Rattle.nd_time.specs.Time.{Time}
+use Rattle.nd_graph.specs.declared.graph.Arc.{Arc}
 use Rattle.nd_graph.specs.Graph.{Dataflow, depths}
+use Rattle.nd_summaries.specs.declared.summary.Summary.{Summary}
+use Rattle.nd_summaries.specs.Walk.{HasDepth, IsWalk, LeadsBefore, effect}
+use Rattle.nd_summaries.specs.Summary.{AreMinimalSummaries, IsMinimalSummary}
+use Rattle.nd_summaries.specs.Laws.{SomeTurns}
 use Rattle.nd_paths.specs.declared.point.Pointstamp.{Pointstamp}
-use Rattle.nd_paths.specs.declared.summary.Summary.{Summary}
-use Rattle.nd_paths.specs.Order.{Fits, CouldResultIn, effect}
-use Rattle.nd_paths.specs.Summary.{applied}
-use Rattle.nd_paths.specs.Table.{held, IsLeast, IsTable}
-use Rattle.nd_paths.specs.Arrival.{TurnsInto, HasAtOrBefore, turned, HoldsFew, HoldsTurning, AreTurned}
-use Rattle.nd_paths.proofs.Decisions.{held_fit, leads_from_could}
-use Rattle.nd_paths.proofs.Graphs.{DepthsAgree, ends_inside, fits_size, depth_within, has_depth}
-use Rattle.nd_paths.proofs.Walks.{length-effect}
-use Rattle.nd_paths.proofs.Raised.{length-applied}
-use Rattle.nd_paths.proofs.Unique.{is_summary}
+use Rattle.nd_paths.specs.Order.{Fits, CouldResultIn}
+use Rattle.nd_paths.specs.Arrival.{TurnsInto, CoverAll, turned}
+use Rattle.nd_paths.proofs.PointOrder.{leads_from_could, could_from_leads}
 
-module _ (row : List (Option Summary)) (b : ℕ) (t : Time) where
-  -- the times from the summaries of the first keeps
-  pub record AreTurnedUpTo (n : ℕ) (times : List Time) : Type 0 where
-    pub short : length times ≤ n
-    pub each : All (HoldsTurning row b t) times
-    pub all : (r : ℕ) (s : Summary) → r < n → held row b r ≡ Some s → Contains times (turned s t)
+-- the location of a point that fits is one of the graph, and its time has that depth
+pub fits_size : (g : Dataflow) (s : Pointstamp) → Fits g s → (s.location < length (depths g)) × (length s.time.counters ≡ slice_index (depths g) s.location)
+fits_size g s f =
+    (slice_get_within (depths g) s.location (length s.time.counters) f.depth, sym (get_or_from_slice_get (depths g) s.location (length s.time.counters) 0 f.depth))
 
-  pub turned_skip : (n : ℕ) (times : List Time) → held row b n ≡ None → AreTurnedUpTo n times → AreTurnedUpTo (n + 1) times
-  turned_skip n times none h = record {
-    short = let l = h.short in omega arith;
-    each = h.each;
-    all = λ r s lt e. elim (cases_lt r n) [
-      | inl less ↦ h.all r s less e
-      | inr more ↦ (let same : r ≡ n = omega arith in absurd (cc (ap (held row b) same, none, e)))
-    ];
-  }
+contains_mapped : {X Y : Type 0} (f : X → Y) (xs : List X) (x : X) → Contains xs x → Contains (map f xs) (f x)
+contains_mapped f [] x (k, l, e) = absurd (omega (arith, l))
+contains_mapped f (y ∷ xs) x (zero, l, e) = (0, omega arith, ap f e)
+contains_mapped f (y ∷ xs) x (suc k, l, e) = let (n, m, e') = contains_mapped f xs x (k, omega arith, e) in (suc n, omega (arith, m), e')
 
-  pub turned_one : (n : ℕ) (s : Summary) (times : List Time) → held row b n ≡ Some s → AreTurnedUpTo n times → AreTurnedUpTo (n + 1) (times ++ turned s t ∷ [])
-  turned_one n s times some h = record {
-    short = let l = h.short in let a = length_push times (turned s t) in omega arith;
-    each = All-push (HoldsTurning row b t) times (turned s t) h.each (n, s, some, refl);
-    all = λ r v lt e. elim (cases_lt r n) [
-      | inl less ↦ Contains-append_left times (turned s t ∷ []) (turned v t) (h.all r v less e)
-      | inr m ↦
-          let same : r ≡ n = omega arith in
-          let known : Some s ≡ Some v = cc in
-          let is : s ≡ v = cc in
-          subst (λ u. Contains (times ++ turned s t ∷ []) (turned u t)) is (Contains-push times (turned s t))
-    ];
-  }
-
-module _ {Z : Type 0} (g : Dataflow) (rows : List (Vec (Option Summary) Z)) (table : IsTable g rows) where
-  -- each held summary leaves at most max_depth counters
-  pub holds_few : (s : Pointstamp) (b : ℕ) (row : List (Option Summary)) → Fits g s → b < length (depths g) → IsLeast g s.location row → HoldsFew row b (length s.time.counters)
-  holds_few s b row fits inside least r u e =
-      let fit = held_fit g rows table s.location b row least r u e in
-      (omega (arith, fit.0, (fits_size g s fits).1), omega (arith, fit.1, table.deep b 0 inside))
-
-  -- each of the times comes from a walk
-  pub each_turned : (s : Pointstamp) (b : ℕ) (row : List (Option Summary)) (times : List Time) → Fits g s → IsLeast g s.location row → AreTurned row b s.time times → All (TurnsInto g s b) times
-  each_turned s b row times fits least turned k d lt =
-      let (r, u, e, is) = turned.each k d lt in
-      let (w, walk, same, _) = least.walks b r u e in
-      let size = fits_size g s fits in
-      let of = is_summary g table.agree w s.location b u size.0 walk same in
+module _ (g : Dataflow) (s : Pointstamp) (b : ℕ) (list : List Summary) (minimal : AreMinimalSummaries g.order g s.location b list) where
+  one_turned : Fits g s → (u : Summary) → IsMinimalSummary g.order g s.location b u → TurnsInto g s b (turned u s.time)
+  one_turned f u m =
+      let both : Some (length s.time.counters) ≡ Some m.summary.depth = sym f.depth ∙ m.summary.has_depth in
+      let size : length s.time.counters ≡ m.summary.depth = cc in
       record {
-        fits = fits;
-        walk = w;
-        leads = walk;
-        time = is ∙ ap (λ c. record { epoch = s.time.epoch; counters = c }) (of.does s.time.counters (size.1 ∙ sym (depth_within g s.location of.depth of.has_depth).1));
+        fits = f;
+        walk = m.walk;
+        leads = m.leads;
+        time = ap (λ c. record { epoch = s.time.epoch; counters = c }) (m.summary.does s.time.counters size);
       }
 
-  -- each time that the pointstamp could result in has one of the times at or before it
-  pub least_turned : (s t : Pointstamp) (row : List (Option Summary)) (times : List Time) → IsLeast g s.location row → AreTurned row t.location s.time times → CouldResultIn g s t → HasAtOrBefore times t.time
-  least_turned s t row times least turned could =
-      let (r, u, e, less) = leads_from_could g rows table s t row least could in
-      let fit = held_fit g rows table s.location t.location row least r u e in
-      let size = fits_size g s could.fits_s in
-      let size' = fits_size g t could.fits_t in
-      let depth : length (applied u s.time.counters) ≡ length t.time.counters = length-applied u s.time.counters (omega (arith, fit.0, size.1)) ∙ fit.1 ∙ sym size'.1 in
-      (record { epoch = s.time.epoch; counters = applied u s.time.counters }, turned.all r u e, record { depth = depth; epoch = could.before.epoch; counters = less })
+  -- each of the times comes from a walk
+  pub each_turned : Fits g s → All (TurnsInto g s b) (map (λ u. turned u s.time) list)
+  each_turned f =
+      All-map (TurnsInto g s b) (λ u. turned u s.time) list (λ k d l. one_turned f (get_or list k d) (minimal.each k d l))
 
--- a pointstamp could result in the time into which a walk turns its own
-pub turned_on : (g : Dataflow) → DepthsAgree g → (s : Pointstamp) (x : ℕ) (t : Time) → TurnsInto g s x t → CouldResultIn g s (record { location = x; time = t })
-turned_on g agree s x t h =
-    let c : List ℕ = s.time.counters in
-    let inside : x < length (depths g) = ends_inside g agree h.walk s.location x (fits_size g s h.fits).0 h.leads in
-    let size : length (effect h.walk c) ≡ slice_index (depths g) x = length-effect g h.walk s.location x c agree h.leads (fits_size g s h.fits).1 in
-    let same : length t.counters ≡ length (effect h.walk c) = ap (λ (u : Time). length u.counters) h.time in
-    record {
-      fits_s = h.fits;
-      fits_t = record { depth = has_depth g x (length t.counters) inside (same ∙ size) };
-      walk = h.walk;
-      leads = h.leads;
-      before = record {
-        depth = sym same;
-        epoch = let e = ap (λ (u : Time). u.epoch) h.time in omega arith;
-        counters = inl (sym (ap (λ (u : Time). u.counters) h.time));
-      };
-    }
+  -- each time that the point could result in has one of the times at or before it
+  pub all_covered : ((t : Time) → LeadsBefore g.order g s.location s.time b t → SomeTurns g.order list s.time t) → CoverAll g s b (map (λ u. turned u s.time) list)
+  all_covered some = λ t could.
+      let (u, i, before) = some t (leads_from_could g s (record { location = b; time = t }) could) in
+      (turned u s.time, contains_mapped (λ v. turned v s.time) list u i, before)
+
+-- a point could result in the time into which a walk turns its own
+pub turned_on : (g : Dataflow) → ((k l : ℕ) (w : List Arc) (s : Time) → HasDepth g k (length s.counters) → IsWalk g k w l → LeadsBefore g.order g k s l (record { epoch = s.epoch; counters = effect w s.counters })) → (s : Pointstamp) (x : ℕ) (t : Time) → TurnsInto g s x t → CouldResultIn g s (record { location = x; time = t })
+turned_on g leads s x t h =
+    let one = leads s.location x h.walk s.time h.fits.depth h.leads in
+    could_from_leads g s (record { location = x; time = t }) (subst (LeadsBefore g.order g s.location s.time x) (sym h.time) one)

@@ -1,2 +1,4 @@
 pub mod PointOrder
+mod Minimal
 mod Arrivals
+mod Places

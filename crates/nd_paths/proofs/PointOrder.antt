@@ -1,66 +1,54 @@
--- The order of the points of an accepted graph is a partial order.
-use Rattle.std.proofs.Common.{◌≡◌, inl, List, [], ◌∷◌, ◌++◌, length, refl, sym, ◌∙◌, ap, subst, arith, ℕ}
-use Rattle.nd_time.specs.Time.{IsLexicallyAtMost}
-use Rattle.nd_graph.specs.declared.graph.Arc.{Arc}
+-- The order of the points of a graph is that of times at its locations.
+use Rattle.std.proofs.Common.{◌≡◌, ◌⊎◌, inl, inr, ℕ, sym, subst}
+use Rattle.nd_time.specs.Time.{Time}
 use Rattle.nd_graph.specs.Graph.{Dataflow}
+use Rattle.nd_summaries.specs.Walk.{LeadsBefore}
 use Rattle.nd_paths.specs.declared.point.Pointstamp.{Pointstamp}
-use Rattle.nd_paths.specs.Order.{Fits, CouldResultIn, IsStrictlyBefore, IsAccepted, IsWalk, effect}
-use Rattle.nd_paths.proofs.Graphs.{walks_joined}
-use Rattle.nd_paths.proofs.Orders.{smaller_irrefl, then_at, most_trans, most_antisym, effect_mono, effect-append, same_depth}
+use Rattle.nd_paths.specs.Order.{Fits, CouldResultIn, IsStrictlyBefore}
 
--- two walks, one after the other
-joined_depth : (w v : List Arc) (c d e : List ℕ) → length (effect w c) ≡ length d → length (effect v d) ≡ length e → length (effect (w ++ v) c) ≡ length e
-joined_depth w v c d e h k = ap length (effect-append w v c) ∙ same_depth v (effect w c) d h ∙ k
+pub leads_from_could : (g : Dataflow) (s t : Pointstamp) → CouldResultIn g s t → LeadsBefore g.order g s.location s.time t.location t.time
+leads_from_could g s t h =
+    record { depth_s = h.fits_s.depth; depth_t = h.fits_t.depth; walk = h.walk; leads = h.leads; before = h.before }
 
-joined : (w v : List Arc) (c d e : List ℕ) → length (effect w c) ≡ length d → IsLexicallyAtMost (effect w c) d → IsLexicallyAtMost (effect v d) e → IsLexicallyAtMost (effect (w ++ v) c) e
-joined w v c d e size h k =
-    subst (λ l. IsLexicallyAtMost l e) (sym (effect-append w v c)) (most_trans (effect v (effect w c)) (effect v d) e (effect_mono v (effect w c) d size h) k)
-
-pub could_refl : (g : Dataflow) (s : Pointstamp) → Fits g s → CouldResultIn g s s
-could_refl g s f = record { fits_s = f; fits_t = f; walk = []; leads = refl; before = record { depth = refl; epoch = omega arith; counters = inl refl } }
-
-pub could_trans : (g : Dataflow) (s t u : Pointstamp) → CouldResultIn g s t → CouldResultIn g t u → CouldResultIn g s u
-could_trans g s t u h k = record {
-  fits_s = h.fits_s;
-  fits_t = k.fits_t;
-  walk = h.walk ++ k.walk;
-  leads = walks_joined g h.walk k.walk s.location t.location u.location h.leads k.leads;
-  before = record {
-    depth = joined_depth h.walk k.walk s.time.counters t.time.counters u.time.counters h.before.depth k.before.depth;
-    epoch = omega (arith, h.before.epoch, k.before.epoch);
-    counters = joined h.walk k.walk s.time.counters t.time.counters u.time.counters h.before.depth h.before.counters k.before.counters;
-  };
+pub could_from_leads : (g : Dataflow) (s t : Pointstamp) → LeadsBefore g.order g s.location s.time t.location t.time → CouldResultIn g s t
+could_from_leads g s t h = record {
+  fits_s = record { depth = h.depth_s };
+  fits_t = record { depth = h.depth_t };
+  walk = h.walk;
+  leads = h.leads;
+  before = h.before;
 }
 
--- the only walk from a point back to it, or to one before it, is the empty one
-no_way_back : (g : Dataflow) (s : Pointstamp) (w : List Arc) → IsAccepted g → Fits g s → IsWalk g s.location w s.location → IsLexicallyAtMost (effect w s.time.counters) s.time.counters → w ≡ []
-no_way_back g s [] ok f walk less = refl
-no_way_back g s (x ∷ w) ok f walk less =
-    let c : List ℕ = s.time.counters in
-    absurd (smaller_irrefl c (then_at c (effect (x ∷ w) c) c (ok.strict s.location x w c walk f.depth) less))
+module _ (g : Dataflow) (trans : (k l m : ℕ) (s t u : Time) → LeadsBefore g.order g k s l t → LeadsBefore g.order g l t m u → LeadsBefore g.order g k s m u) where
+  pub could_trans : (s t u : Pointstamp) → CouldResultIn g s t → CouldResultIn g t u → CouldResultIn g s u
+  could_trans s t u h k =
+      could_from_leads g s u (trans s.location t.location u.location s.time t.time u.time (leads_from_could g s t h) (leads_from_could g t u k))
 
-both_empty : (w v : List Arc) → w ++ v ≡ [] → (w ≡ []) × (v ≡ [])
-both_empty [] v h = (refl, h)
-both_empty (x ∷ w) v h = absurd (cc)
+module _ (g : Dataflow) (antisym : (k l : ℕ) (s t : Time) → LeadsBefore g.order g k s l t → LeadsBefore g.order g l t k s → (k ≡ l) × (s ≡ t)) where
+  pub could_antisym : (s t : Pointstamp) → CouldResultIn g s t → CouldResultIn g t s → s ≡ t
+  could_antisym s t h k =
+      let (place, time) = antisym s.location t.location s.time t.time (leads_from_could g s t h) (leads_from_could g t s k) in
+      λ i. record { location = place i; time = time i }
 
-empty_walk : (g : Dataflow) (w : List Arc) (k l : ℕ) (c d : List ℕ) → w ≡ [] → IsWalk g k w l → IsLexicallyAtMost (effect w c) d → (k ≡ l) × IsLexicallyAtMost c d
-empty_walk g w k l c d e walk less =
-    (subst (λ v. IsWalk g k v l) e walk, subst (λ v. IsLexicallyAtMost (effect v c) d) e less)
+-- of two points the first could result in the second, or it could not
+pub could_or_not : (g : Dataflow) → ((k l : ℕ) (s t : Time) → LeadsBefore g.order g k s l t ⊎ (LeadsBefore g.order g k s l t → ⊥)) → (s t : Pointstamp) → CouldResultIn g s t ⊎ (CouldResultIn g s t → ⊥)
+could_or_not g dec s t =
+    elim (dec s.location t.location s.time t.time) [ inl p ↦ inl (could_from_leads g s t p) | inr n ↦ inr (λ h. n (leads_from_could g s t h)) ]
 
-pub could_antisym : (g : Dataflow) (s t : Pointstamp) → IsAccepted g → CouldResultIn g s t → CouldResultIn g t s → s ≡ t
-unfolding could_trans
-could_antisym g s t ok h k =
-    let c : List ℕ = s.time.counters in
-    let d : List ℕ = t.time.counters in
-    let round = could_trans g s t s h k in
-    let (e, e') = both_empty h.walk k.walk (no_way_back g s (h.walk ++ k.walk) ok h.fits_s round.leads round.before.counters) in
-    let one = empty_walk g h.walk s.location t.location c d e h.leads h.before.counters in
-    let two = empty_walk g k.walk t.location s.location d c e' k.leads k.before.counters in
-    let place : s.location ≡ t.location = one.0 in
-    let epochs : s.time.epoch ≡ t.time.epoch = omega (arith, h.before.epoch, k.before.epoch) in
-    let same : c ≡ d = most_antisym c d one.1 two.1 in
-    λ i. record { location = place i; time = record { epoch = epochs i; counters = same i } }
+-- ---- the strict order
 
-pub strictly_trans : (g : Dataflow) (s t u : Pointstamp) → IsAccepted g → IsStrictlyBefore g s t → IsStrictlyBefore g t u → IsStrictlyBefore g s u
-strictly_trans g s t u ok p q =
-    (could_trans g s t u p.0 q.0, λ e. p.1 (could_antisym g s t ok p.0 (subst (λ v. CouldResultIn g t v) (sym e) q.0)))
+module _ (g : Dataflow) (trans : (s t u : Pointstamp) → CouldResultIn g s t → CouldResultIn g t u → CouldResultIn g s u) (antisym : (s t : Pointstamp) → CouldResultIn g s t → CouldResultIn g t s → s ≡ t) where
+  pub strictly_trans : (s t u : Pointstamp) → IsStrictlyBefore g s t → IsStrictlyBefore g t u → IsStrictlyBefore g s u
+  strictly_trans s t u p q =
+      (trans s t u p.0 q.0, λ e. p.1 (antisym s t p.0 (subst (λ v. CouldResultIn g t v) (sym e) q.0)))
+
+module _ (g : Dataflow) (refl' : (s : Pointstamp) → Fits g s → CouldResultIn g s s) (antisym : (s t : Pointstamp) → CouldResultIn g s t → CouldResultIn g t s → s ≡ t) (dec : (s t : Pointstamp) → CouldResultIn g s t ⊎ (CouldResultIn g s t → ⊥)) where
+  pub strictly_or_not : (s t : Pointstamp) → IsStrictlyBefore g s t ⊎ (IsStrictlyBefore g s t → ⊥)
+  strictly_or_not s t =
+      elim (dec s t) [
+        | inl p ↦ elim (dec t s) [
+          | inl q ↦ inr (λ k. k.1 (antisym s t p q))
+          | inr none ↦ inl (p, λ e. none (subst (λ v. CouldResultIn g v s) e (refl' s p.fits_s)))
+        ]
+        | inr none ↦ inr (λ k. none k.0)
+      ]

@@ -1,7 +1,7 @@
 //! The times into which walks turn the time of a pointstamp.
-ghost use Rattle.std.specs.Prelude.{◌≡◌, ◌≤◌, ◌↔◌, IsTrue, length};
+ghost use Rattle.std.specs.Prelude.{◌≡◌, ◌≤◌, ◌↔◌, All, IsTrue, IfOk, length, map};
 ghost use Rattle.nd_time.specs.Time.{Time};
-ghost use Rattle.nd_time.specs.Order.{IsAtOrBeforeBy, IsEachAtMost};
+ghost use Rattle.nd_time.specs.Order.{AreAtMost, IsAtOrBeforeBy, IsEachAtMost};
 ghost use Rattle.nd_time.specs.Listing.{time_cmp};
 ghost use Rattle.nd_time.specs.Limits.{max_depth};
 ghost use Rattle.nd_summaries.specs.Summary.{left_by};
@@ -9,8 +9,9 @@ ghost use Rattle.nd_paths.specs.Arrival.{turned as turned_by};
 
 use arrayvec::ArrayVec;
 use nd_summaries::Summary;
-use nd_time::{TimeOrder, Timestamp};
 use nd_time::limits::MAX_DEPTH;
+use nd_time::{TimeOrder, Timestamp};
+use std::alloc::{AllocError, Allocator};
 use std::marker::Model;
 
 /// The time at the end of a walk: an epoch and the counters of the loops around the location, outermost
@@ -75,16 +76,41 @@ impl ArrivalTime {
         }
     }
 
+    /// Returns the times into which summaries turn `time`.
+    pub(crate) fn all_turned<A: Allocator>(
+        alloc: A,
+        summaries: &[Summary],
+        time: &Timestamp,
+    ) -> Result<Vec<ArrivalTime, A>, AllocError>
+        requires keep { All (λ s. s.keep ≤ length time.now.counters) summaries.now }
+        requires deep { All (λ s. left_by s ≤ max_depth) summaries.now }
+        ensures { IfOk result (λ v. v.items ≡ map (λ s. turned_by s time.now) summaries.now) }
+    {
+        let mut times = Vec::new(alloc);
+        for summary in summaries {
+            times.push(ArrivalTime::turned(summary, time))?;
+        }
+        Ok(times)
+    }
+
     /// Returns whether this time is at or before `other` by the order. It is not if their depths differ.
     pub fn at_or_before_by(&self, other: &ArrivalTime, order: TimeOrder) -> bool
         ensures { IsTrue result ↔ IsAtOrBeforeBy order self.now other.now }
     {
         self.counters.len() == other.counters.len()
             && self.epoch <= other.epoch
-            && match order {
-                TimeOrder::Lexicographic => self.counters.cmp(&other.counters).is_le(),
-                TimeOrder::Product => are_each_at_most(&self.counters, &other.counters),
-            }
+            && are_at_most(self.counters(), other.counters(), order)
+    }
+}
+
+// Returns whether the counters of one time are at most those of another of the same depth.
+fn are_at_most(own: &[u64], theirs: &[u64], order: TimeOrder) -> bool
+    requires { length own.now ≡ length theirs.now }
+    ensures { IsTrue result ↔ AreAtMost order own.now theirs.now }
+{
+    match order {
+        TimeOrder::Lexicographic => own.cmp(theirs).is_le(),
+        TimeOrder::Product => are_each_at_most(own, theirs),
     }
 }
 

@@ -13,7 +13,7 @@ ghost use Rattle.nd_paths.specs.Arrival.{TurnsInto, CoverAll, WalksLeadOn};
 
 use crate::{ArrivalTime, Pointstamp};
 use nd_graph::Graph;
-use nd_summaries::{PathFault, Summaries, Summary};
+use nd_summaries::{PathFault, Summaries, Summary, times_are_ordered};
 use std::alloc::{AllocError, Allocator, Global};
 use std::marker::Model;
 use std::sync::Arc as Shared;
@@ -114,15 +114,13 @@ impl<A: Allocator> Paths<A> {
         ensures each { IfOk result (λ v. All (TurnsInto self.now point.now to) v.items) }
         ensures least { IfOk result (λ v. CoverAll self.now point.now to v.items) }
     {
-        let mut times = Vec::new(alloc);
         let graph = self.graph();
         if !point.fits(graph) || to >= graph.location_count() {
-            return Ok(times);
+            return Ok(Vec::new(alloc));
         }
-        for summary in self.summaries(point.location, to) {
-            times.push(ArrivalTime::turned(summary, &point.time))?;
-        }
-        Ok(times)
+        self.summaries.summaries_decide();
+        let summaries = self.summaries.summaries(point.location, to);
+        ArrivalTime::all_turned(alloc, summaries, &point.time)
     }
 
     /// Returns whether some walk leads from one location to another.
@@ -148,6 +146,8 @@ impl<A: Allocator> Paths<A> {
             → (m : Pointstamp) × IsMinimalAmong self.now (p ∷ ps) m }
     {
         let _ = self.graph();
+        times_are_ordered();
+        self.order_is_decided();
     }
 
     /// States that a pointstamp could result in each time into which a walk turns its own, at the end of
@@ -155,7 +155,7 @@ impl<A: Allocator> Paths<A> {
     pub fn walks_lead_on(&self)
         ensures { WalksLeadOn self.now }
     {
-        let _ = self.graph();
+        self.summaries.walks_lead_on();
     }
 
     /// States that of two pointstamps the first is strictly before the second, or it is not.
@@ -164,5 +164,7 @@ impl<A: Allocator> Paths<A> {
             → IsStrictlyBefore self.now s t ⊎ (IsStrictlyBefore self.now s t → ⊥) }
     {
         let _ = self.graph();
+        times_are_ordered();
+        self.summaries.order_is_decided();
     }
 }

@@ -1,40 +1,45 @@
-use Rattle.std.proofs.Common.{◌<◌, length, refl, sym, subst, arith}
-use Rattle.std.specs.Prelude.{All}
-use Rattle.nd_graph.specs.Graph.{Dataflow, depths}
-use Rattle.nd_paths.specs.Order.{Fits, CouldResultIn}
-use Rattle.nd_paths.specs.Arrival.{TurnsInto}
-use Rattle.nd_paths.proofs.Arrivals.{holds_few, each_turned, least_turned}
-use Rattle.nd_paths.proofs.Decisions.{row_least}
-use Rattle.nd_paths.proofs.TableLemmas.{table_as}
-use Rattle.nd_paths.proofs.Graphs.{fits_size, length-depths}
+use Rattle.std.proofs.Common.{◌≡◌, ◌∙◌, refl, subst, sym, map, arith}
+use Rattle.std.specs.Prelude.{All, List}
+use Rattle.std.proofs.lemmas.Result.{IfOk-weaker}
+use Rattle.nd_time.specs.Time.{Time}
+use Rattle.nd_graph.specs.Graph.{Dataflow}
+use Rattle.nd_summaries.specs.Walk.{LeadsBefore}
+use Rattle.nd_summaries.specs.Laws.{SomeTurns}
+use Rattle.nd_summaries.specs.Summary.{AreMinimalSummaries}
+use Rattle.nd_paths.specs.Order.{Fits}
+use Rattle.nd_paths.specs.Arrival.{TurnsInto, CoverAll, turned}
+use Rattle.nd_paths.proofs.Arrivals.{each_turned, all_covered, fits_size}
 use Rattle.nd_paths.proofs.paths.Paths.reached.Goals as goal
 
-pub turned_by-requires-clause-few : goal.turned_by-requires-clause-few
-turned_by-requires-clause-few g c =
-    let graph : Dataflow = c.self.inside.graph in
-    let rows = c.rows.result.now in
-    let table = table_as c.args.self.now graph rows c.self.view_is c.rows.ensures in
-    let f : Fits graph c.args.point.now = c.if-not-fits.ensures.0 refl in
-    let within : c.args.to < length (depths graph) = omega (arith, length-depths graph, c.if-to-location_count.false, c.location_count.ensures.count) in
-    let least = row_least graph rows table c.args.point.now.location c.index-rows-point.result c.deref.result.now (fits_size graph c.args.point.now f).0 c.index-rows-point.is c.deref.ensures.value in
-    holds_few graph rows table c.args.point.now c.args.to c.deref.result.now f within least
+pub all_turned-requires : goal.all_turned-requires
+all_turned-requires g c =
+    let view : c.deref-2.result.now ≡ c.args.self.now = c.deref-2.ensures ∙ c.self.view_is in
+    let same : c.graph-graph.result.now ≡ c.deref-2.result.now = c.graph-graph.ensures.value ∙ sym view in
+    let fits = subst (λ (v : Dataflow). Fits v c.args.point.now) same (c.if-not-fits.ensures.0 refl) in
+    record {
+      keep = λ k d l. omega (arith, (c.summaries-summaries.ensures.fit k d l).0, (fits_size c.deref-2.result.now c.args.point.now fits).1);
+      deep = c.summaries-summaries.ensures.few;
+    }
 
 pub returns-clause-each : goal.returns-clause-each
 returns-clause-each g c =
-    let graph : Dataflow = c.self.inside.graph in
-    let rows = c.rows.result.now in
-    let table = table_as c.args.self.now graph rows c.self.view_is c.rows.ensures in
-    let f : Fits graph c.args.point.now = c.if-not-fits.ensures.0 refl in
-    let least = row_least graph rows table c.args.point.now.location c.index-rows-point.result c.deref.result.now (fits_size graph c.args.point.now f).0 c.index-rows-point.is c.deref.ensures.value in
-    subst (λ (k : Dataflow). All (TurnsInto k c.args.point.now c.args.to) c.turned_by.result.items) c.self.view_is
-    (each_turned graph rows table c.args.point.now c.args.to c.deref.result.now c.turned_by.result.items f least c.turned_by.ensures)
+    let graph : Dataflow = c.args.self.now in
+    let view : c.deref-2.result.now ≡ graph = c.deref-2.ensures ∙ c.self.view_is in
+    let fits = subst (λ (v : Dataflow). Fits v c.args.point.now) c.graph-graph.ensures.value (c.if-not-fits.ensures.0 refl) in
+    let minimal = subst (λ (v : Dataflow). AreMinimalSummaries v.order v c.args.point.now.location c.args.to c.summaries-summaries.result.now) view c.summaries-summaries.ensures.minimal in
+    let each = each_turned graph c.args.point.now c.args.to c.summaries-summaries.result.now minimal fits in
+    IfOk-weaker c.all_turned.result (λ v. v.items ≡ map (λ u. turned u c.args.point.now.time) c.summaries-summaries.result.now) (λ v. All (TurnsInto graph c.args.point.now c.args.to) v.items)
+    (λ v is. subst (λ (ts : List Time). All (TurnsInto graph c.args.point.now c.args.to) ts) (sym is) each) c.all_turned.ensures
 
 pub returns-clause-least : goal.returns-clause-least
-returns-clause-least g c = λ t could.
-    let graph : Dataflow = c.self.inside.graph in
-    let rows = c.rows.result.now in
-    let table = table_as c.args.self.now graph rows c.self.view_is c.rows.ensures in
-    let f : Fits graph c.args.point.now = c.if-not-fits.ensures.0 refl in
-    let least = row_least graph rows table c.args.point.now.location c.index-rows-point.result c.deref.result.now (fits_size graph c.args.point.now f).0 c.index-rows-point.is c.deref.ensures.value in
-    least_turned graph rows table c.args.point.now (record { location = c.args.to; time = t }) c.deref.result.now c.turned_by.result.items least c.turned_by.ensures
-    (subst (λ (k : Dataflow). CouldResultIn k c.args.point.now (record { location = c.args.to; time = t })) (sym c.self.view_is) could)
+returns-clause-least g c =
+    let graph : Dataflow = c.args.self.now in
+    let view : c.deref-2.result.now ≡ graph = c.deref-2.ensures ∙ c.self.view_is in
+    let view' : c.deref.result.now ≡ graph = c.deref.ensures ∙ c.self.view_is in
+    let M : Dataflow → Type 0 = λ v. AreMinimalSummaries v.order v c.args.point.now.location c.args.to c.summaries-summaries.result.now in
+    let minimal : M graph = subst M view c.summaries-summaries.ensures.minimal in
+    let decide = λ (t : Time). subst (λ (v : Dataflow). LeadsBefore v.order v c.args.point.now.location c.args.point.now.time c.args.to t → SomeTurns v.order c.summaries-summaries.result.now c.args.point.now.time t) view'
+    (c.summaries_decide.ensures c.args.point.now.location c.args.to c.summaries-summaries.result.now c.args.point.now.time t (subst M (sym view') minimal)) in
+    let covers = all_covered graph c.args.point.now c.args.to c.summaries-summaries.result.now minimal decide in
+    IfOk-weaker c.all_turned.result (λ v. v.items ≡ map (λ u. turned u c.args.point.now.time) c.summaries-summaries.result.now) (λ v. CoverAll graph c.args.point.now c.args.to v.items)
+    (λ v is. subst (λ (ts : List Time). CoverAll graph c.args.point.now c.args.to ts) (sym is) covers) c.all_turned.ensures
