@@ -15,25 +15,27 @@ kept f g line number = ap (λ (x : Front). made x f.number) line ∙ ap (made g.
     made : Front → ℕ → Held
     made x n = record { line = x; number = n }
 
-pub held-first : (new : Held) → new.line ≡ front_of [] → new.number ≡ 1 → new ≡ held_of []
-held-first new line number =
-    kept new (held_of []) (line ∙ ap front_of (sym last_line-empty)) (number ∙ sym (lines-count [] ∙ ap (λ (ls : List (List ℕ)). 1 + length ls) whole_lines-empty))
+pub held-first : (new : Held) (limit : ℕ) → new.line ≡ front_of limit [] → new.number ≡ 1 → new ≡ held_of limit []
+held-first new limit line number =
+    kept new (held_of limit []) (line ∙ ap (front_of limit) (sym last_line-empty)) (number ∙ sym (lines-count [] ∙ ap (λ (ls : List (List ℕ)). 1 + length ls) whole_lines-empty))
 
-pub held-on : (held new : Held) (done bytes : List ℕ) → has_newline bytes ≡ false → ((line : List ℕ) → held.line ≡ front_of line → new.line ≡ front_of (line ++ bytes))
-    → new.number ≡ held.number → held ≡ held_of done → new ≡ held_of (done ++ bytes)
-held-on held new done bytes none line number h =
+pub held-on : (held new : Held) (limit : ℕ) (done bytes : List ℕ) → has_newline bytes ≡ false
+    → ((limit : ℕ) (line : List ℕ) → held.line ≡ front_of limit line → new.line ≡ front_of limit (line ++ bytes))
+    → new.number ≡ held.number → held ≡ held_of limit done → new ≡ held_of limit (done ++ bytes)
+held-on held new limit done bytes none line number h =
     let old : held.number ≡ length (lines_of done) = ap (λ f. f.number) h in
     let same : length (lines_of done) ≡ length (lines_of (done ++ bytes)) =
     lines-count done ∙ (ap (λ (ls : List (List ℕ)). 1 + length ls) (sym (whole_lines-on done bytes none)) ∙ sym (lines-count (done ++ bytes))) in
-    kept new (held_of (done ++ bytes)) (line (last_line_of done) (ap (λ f. f.line) h) ∙ ap front_of (sym (last_line-on done bytes none))) (number ∙ (old ∙ same))
+    kept new (held_of limit (done ++ bytes)) (line limit (last_line_of done) (ap (λ f. f.line) h) ∙ ap (front_of limit) (sym (last_line-on done bytes none))) (number ∙ (old ∙ same))
 
-pub held-next : (held new : Held) (done : List ℕ) → new.line ≡ front_of [] → new.number ≡ held.number + 1 → held ≡ held_of done → new ≡ held_of (done ++ 10 ∷ [])
-held-next held new done line number h =
+pub held-next : (held new : Held) (before limit : ℕ) (done : List ℕ) → new.line ≡ front_of limit [] → new.number ≡ held.number + 1 → held ≡ held_of before done
+    → new ≡ held_of limit (done ++ 10 ∷ [])
+held-next held new before limit done line number h =
     let old : held.number ≡ length (lines_of done) = ap (λ f. f.number) h in
     let count : length (lines_of (done ++ 10 ∷ [])) ≡ 1 + length (lines_of done) =
     lines-count (done ++ 10 ∷ []) ∙ ap (λ (ls : List (List ℕ)). 1 + length ls) (whole_lines-newline done) in
     let same : new.number ≡ length (lines_of (done ++ 10 ∷ [])) = omega arith in
-    kept new (held_of (done ++ 10 ∷ [])) (line ∙ ap front_of (sym (last_line-newline done))) same
+    kept new (held_of limit (done ++ 10 ∷ [])) (line ∙ ap (front_of limit) (sym (last_line-newline done))) same
 
 -- ---- the next newline
 

@@ -4,7 +4,6 @@ use Rattle.std.specs.List.{slice_split, list_all, list_any}
 use Rattle.std.specs.Str.{is_utf8}
 use Rattle.serde_json.specs.Data.{Data}
 use Rattle.serde_json.specs.Read.{read}
-use Rattle.nd_time.specs.Limits.{max_line}
 
 abbrev pub is_newline : ℕ → Bool
 is_newline b = b == 10
@@ -52,8 +51,8 @@ abbrev pub json_or_none : Option Data → Reading
 json_or_none None = no_json
 json_or_none (Some d) = json d
 
--- a line of any length can be blank; other lines are parsed only up to the limit
-unfoldable pub reading_of : List ℕ → Reading
-reading_of line =
+-- a line of any length can be blank; other lines are parsed if they have at most `limit` bytes
+unfoldable pub reading_of : ℕ → List ℕ → Reading
+reading_of limit line =
     if list_all is_blank_byte line then blank
-    else (if nat_lt max_line (length line) then too_long else json_or_none (json_of line))
+    else (if nat_lt limit (length line) then too_long else json_or_none (json_of line))

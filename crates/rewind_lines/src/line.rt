@@ -1,21 +1,20 @@
 //! The line that is being read.
 ghost use Rattle.std.specs.Prelude.{◌≡◌, ◌≤◌, ◌&&◌, ◌||◌, ◌++◌, [], ℕ, List, length, nat_lt, IfOk, IsOk, IsTrue, OnOk, OnErr};
 ghost use Rattle.std.specs.List.{list_all};
-ghost use Rattle.nd_time.specs.Limits.{max_line};
 ghost use Rattle.rewind_lines.specs.Lines.{is_blank_byte, reading_of};
 ghost use Rattle.rewind_lines.specs.Front.{front_of};
 ghost use Rattle.rewind_lines.specs.Readings.{reading_view};
 
 use crate::reading::{Reading, parse};
 use crate::source::front;
-use nd_time::limits::MAX_LINE;
 use std::alloc::{AllocError, Allocator, Global};
 use std::marker::Model;
 
-/// The line that is being read, of any length. It stores the first bytes of the line, whether the line
-/// is longer, and whether it is blank so far.
+/// The line that is being read, of any length. It stores the first bytes of the line, at most `limit`, whether the
+/// line is longer, and whether it is blank so far.
 #[derive(Drop)]
 pub struct Line<A: Allocator = Global> {
+    limit: usize,
     front: Vec<u8, A>,
     is_longer: bool,
     is_blank: bool,
@@ -27,15 +26,21 @@ impl<A: Allocator> Model for Line<A> {
     ghost Value = { Front };
 
     ghost view = { λ l.
-        record { bytes = l.front.items; is_longer = l.is_longer; is_blank = l.is_blank } };
+        record {
+          limit = l.limit;
+          bytes = l.front.items;
+          is_longer = l.is_longer;
+          is_blank = l.is_blank;
+        } };
 }
 
 impl<A: Allocator> Line<A> {
-    /// Returns an empty line.
-    pub fn new(alloc: A) -> Self
-        ensures { result ≡ front_of [] }
+    /// Returns an empty line, which may have `limit` bytes.
+    pub fn new(alloc: A, limit: usize) -> Self
+        ensures { result ≡ front_of limit [] }
     {
         Line {
+            limit,
             front: Vec::new(alloc),
             is_longer: false,
             is_blank: true,
@@ -44,14 +49,14 @@ impl<A: Allocator> Line<A> {
 
     /// Appends more bytes to the line.
     pub fn extend(&mut self, bytes: &[u8]) -> Result<(), AllocError>
-        ensures ok { OnOk result ((line : List ℕ) → self.old ≡ front_of line
-            → self.new ≡ front_of (line ++ bytes.now)) }
+        ensures ok { OnOk result ((limit : ℕ) (line : List ℕ) → self.old ≡ front_of limit line
+            → self.new ≡ front_of limit (line ++ bytes.now)) }
         ensures err { OnErr result (self.new ≡ self.old) }
 
         // Beyond the limit of a line it does not allocate.
-        ensures long { max_line ≤ length self.old.bytes → IsOk result }
+        ensures long { self.old.limit ≤ length self.old.bytes → IsOk result }
     {
-        let room = MAX_LINE.saturating_sub(self.front.len());
+        let room = self.limit.saturating_sub(self.front.len());
         let fits = room.min(bytes.len());
         self.front.extend_from_slice(front(bytes, fits))?;
         self.is_longer = now_longer(self.is_longer, fits, bytes.len());
@@ -59,10 +64,11 @@ impl<A: Allocator> Line<A> {
         Ok(())
     }
 
-    /// Starts the next line.
-    pub fn clear(&mut self)
-        ensures { self.new ≡ front_of [] }
+    /// Starts the next line, which may have `limit` bytes.
+    pub fn clear(&mut self, limit: usize)
+        ensures { self.new ≡ front_of limit [] }
     {
+        self.limit = limit;
         self.front.clear();
         self.is_longer = false;
         self.is_blank = true;
@@ -70,8 +76,8 @@ impl<A: Allocator> Line<A> {
 
     /// Returns what the line contains.
     pub fn reading(&self, alloc: Global) -> Result<Reading, AllocError>
-        ensures reading { IfOk result (λ r. (line : List ℕ) → self.now ≡ front_of line
-            → reading_view r ≡ reading_of line) }
+        ensures reading { IfOk result (λ r. (limit : ℕ) (line : List ℕ)
+            → self.now ≡ front_of limit line → reading_view r ≡ reading_of limit line) }
 
         // It does not allocate for a line that is blank or too long.
         ensures short { IsTrue (self.now.is_blank || self.now.is_longer) → IsOk result }

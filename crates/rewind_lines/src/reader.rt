@@ -1,7 +1,7 @@
 //! The lines of a script, read in pieces.
-ghost use Rattle.std.specs.Prelude.{◌≡◌, ◌+◌, ◌<◌, ◌≤◌, ◌^◌, ◌||◌, ◌∷◌, [], ℕ, List, false, length, IfNone, IfOk, IfSome, IsOk, IsTrue, OnErr};
+ghost use Rattle.std.specs.Prelude.{◌≡◌, ◌+◌, ◌<◌, ◌≤◌, ◌^◌, ◌||◌, [], ℕ, List, false, length, IfNone, IfOk, IfSome, IsOk, IsTrue, OnErr};
 ghost use Rattle.nd_time.specs.Limits.{max_line};
-ghost use Rattle.rewind_lines.specs.Front.{ReadsOn, held_of};
+ghost use Rattle.rewind_lines.specs.Front.{ReadsOn, StartsNext, held_of};
 ghost use Rattle.rewind_lines.specs.Lines.{EndsLine, has_newline, last_line_of, reading_of};
 ghost use Rattle.rewind_lines.specs.Readings.{reading_view};
 
@@ -9,6 +9,7 @@ use crate::line::Line;
 use crate::reading::Reading;
 use crate::source::front;
 use memchr::memchr;
+use nd_time::limits::MAX_LINE;
 use std::alloc::{AllocError, Global};
 use std::marker::Model;
 
@@ -29,14 +30,14 @@ impl Model for LineReader {
 }
 
 impl LineReader {
-    /// Returns a reader at the start of the first line.
+    /// Returns a reader at the start of the first line, which may have `MAX_LINE` bytes.
     pub fn new(alloc: Global) -> LineReader
-        ensures first { result ≡ held_of [] }
+        ensures first { result ≡ held_of max_line [] }
         ensures number { result.number ≡ 1 }
     {
         LineReader {
             alloc,
-            line: Line::new(alloc),
+            line: Line::new(alloc, MAX_LINE),
             number: 1,
         }
     }
@@ -59,7 +60,7 @@ impl LineReader {
         ensures err { OnErr result (self.new ≡ self.old) }
 
         // Beyond the limit of a line it does not allocate.
-        ensures long { max_line ≤ length self.old.line.bytes → IsOk result }
+        ensures long { self.old.line.limit ≤ length self.old.line.bytes → IsOk result }
     {
         match memchr(b'\n', bytes) {
             None => {
@@ -75,8 +76,9 @@ impl LineReader {
 
     /// Returns what the line contains, once it is complete.
     pub fn reading(&self) -> Result<Reading, AllocError>
-        ensures reading { IfOk result (λ r. (done : List ℕ) → self.now ≡ held_of done
-            → reading_view r ≡ reading_of (last_line_of done)) }
+        ensures reading { IfOk result (λ r. (limit : ℕ) (done : List ℕ)
+            → self.now ≡ held_of limit done
+            → reading_view r ≡ reading_of limit (last_line_of done)) }
 
         // It does not allocate for a line that is blank or too long.
         ensures short { IsTrue (self.now.line.is_blank || self.now.line.is_longer) → IsOk result }
@@ -84,13 +86,13 @@ impl LineReader {
         self.line.reading(self.alloc)
     }
 
-    /// Starts the next line, after a newline.
-    pub fn begin_next(&mut self)
+    /// Starts the next line, after a newline. The line may have `limit` bytes.
+    pub fn begin_next(&mut self, limit: usize)
         requires { self.old.number + 1 < 2 ^ 64 }
-        ensures next { ReadsOn self.old (10 ∷ []) self.new }
+        ensures next { StartsNext self.old limit self.new }
         ensures number { self.new.number ≡ self.old.number + 1 }
     {
-        self.line.clear();
+        self.line.clear(limit);
         self.number += 1;
     }
 }

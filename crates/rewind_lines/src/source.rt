@@ -7,7 +7,7 @@ use nd_time::limits::MAX_LINE;
 use std::io::Read;
 use thiserror::Error;
 
-/// The most bytes that are read at a time: the longest line that is parsed as JSON, and its newline.
+/// The most bytes that are read at a time: the longest line but the graph's, and its newline.
 pub const CHUNK: usize = MAX_LINE + 1;
 
 /// A read failed.

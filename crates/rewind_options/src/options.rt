@@ -13,6 +13,7 @@ ghost use Rattle.rewind_options.specs.Options.{given, number_or_one, number_rule
 
 use clap::error::ErrorKind;
 use clap::{Arg, ArgAction, Command, value_parser};
+use nd_time::limits::{MAX_CLIENTS, MAX_PROCESSORS};
 use std::alloc::Global;
 use std::convert::AsStr;
 use thiserror::Error;
@@ -24,8 +25,8 @@ const ABOUT: &str =
 /// A script, as the help shows it.
 const EXAMPLE: &str = concat!(
     "The script is read from standard input: a graph, then one command or query per line.\n",
-    "A first line {\"version\":n}, with n from 2 to 8, chooses its version, which is 1 without it;\n",
-    "more than 8 processors belong to versions 2 to 8.\n\n",
+    "A first line {\"version\":n}, with n from 2 to 9, chooses its version, which is 1 without it;\n",
+    "more than 8 processors belong to versions 2 to 9, and more than 16 to version 9.\n\n",
     "Example:\n",
     "  {\"vertices\":[{\"name\":\"a\",\"op\":\"input\",\"depth\":0}],\"edges\":[]}\n",
     "  {\"do\":\"feed\",\"p\":0,\"vertex\":\"a\",\"values\":[],\"next\":\"next\"}\n",
@@ -61,8 +62,8 @@ fn processors_argument(alloc: Global) -> Arg<'static>
     Arg::new(alloc, "processors")
         .long("processors")
         .action(ArgAction::Set)
-        .value_parser(value_parser!(u8).range(1..=16))
-        .help("Number of processors in the modelled cluster, 1 to 16 (1 if not given)")
+        .value_parser(value_parser!(u8).range(1..=MAX_PROCESSORS as i64))
+        .help("Number of processors in the modelled cluster, 1 to 64 (1 if not given)")
 }
 
 fn clients_argument(alloc: Global) -> Arg<'static>
@@ -73,7 +74,7 @@ fn clients_argument(alloc: Global) -> Arg<'static>
     Arg::new(alloc, "clients")
         .long("clients")
         .action(ArgAction::Set)
-        .value_parser(value_parser!(u8).range(1..=64))
+        .value_parser(value_parser!(u8).range(1..=MAX_CLIENTS as i64))
         .help("Number of clients in the script, 1 to 64 (1 if not given)")
 }
 

@@ -39,7 +39,7 @@ returns-in-Ok-try_get_matches_from g c =
     let ab : bytes_eq a.result.id.now b.result.id.now ≡ false = ap₂ bytes_eq id_a id_b in
     let ba : bytes_eq b.result.id.now a.result.id.now ≡ false = ap₂ bytes_eq id_b id_a in
     let both = two_options c.empty_command.result c.in-Ok.command cmd a.result b.result m c.in-Ok.ensures c.in-Ok-arg.ensures c.empty_command.ensures.args c.empty_command.ensures.groups c.empty_command.ensures.local
-    a.ensures.plain b.ensures.plain ab ba parse.parsed 16 64 (omega arith) (omega arith) (omega arith) (omega arith) a.ensures.parser b.ensures.parser
+    a.ensures.plain b.ensures.plain ab ba parse.parsed 64 64 (omega arith) (omega arith) (omega arith) (omega arith) a.ensures.parser b.ensures.parser
     _ (λ bs r. ParsesUnsigned 8 10 bs r × ExplainsUnsignedError 10 bs r × HasUnsignedDigitsIfOk bs r) (λ u x h. h.0)
     c.get_one.result c.get_one-in-Ok-try_get_matches_from.result
     (rw id_a c.get_one.ensures.none) (rw id_a c.get_one.ensures.value)
