@@ -8,11 +8,12 @@ use Rattle.nd_paths.specs.Point.{point_code}
 use Rattle.nd_paths.specs.declared.point.Pointstamp.{Pointstamp}
 use Rattle.nd_delta.specs.Delta.{at}
 use Rattle.nd_view.specs.View.{IsPassed}
-use Rattle.nd_protocol.specs.State.{ClusterState, view, queue, truth}
+use Rattle.nd_processor.specs.State.{held}
+use Rattle.nd_protocol.specs.State.{ClusterState, processor, view, queue, truth}
 use Rattle.nd_protocol.specs.Invariant.{IsFinished}
 use Rattle.nd_cluster.specs.Sinks.{sunk}
 use Rattle.nd_breaks.specs.declared.condition.Atom.{Atom}
-use Rattle.nd_breaks.specs.declared.condition.Atom.TheVariants.{Passed, Count, Queue, Sink, Finished, View}
+use Rattle.nd_breaks.specs.declared.condition.Atom.TheVariants.{Passed, Count, Queue, Sink, Finished, View, Held}
 use Rattle.nd_breaks.specs.declared.condition.Literal.{Literal}
 use Rattle.nd_breaks.specs.declared.condition.Literal.TheVariants.{Is, Not}
 use Rattle.nd_breaks.specs.declared.condition.Quantifier.{Quantifier}
@@ -44,6 +45,7 @@ AtomHolds s (Queue from to at_least) = (from < length s.processors) × (to < len
 AtomHolds s (Sink vertex value at_least) = (vertex < length s.graph.vertices) × (at_least ≤ sunk s.processors vertex value)
 AtomHolds s (Finished point) = (point.location < location_count s.graph) × IsFinished s point
 AtomHolds s (View q point at_least) = (q < length s.processors) × (point.location < location_count s.graph) × (at_least ≤ℤ at (view s q) point)
+AtomHolds s (Held p point at_least) = (p < length s.processors) × (point.location < location_count s.graph) × (at_least ≤ held (processor s p) point)
 
 -- `Is` holds if its atom holds, `Not` if its atom does not
 abbrev pub LiteralHolds : ClusterState → Literal → Type 0
@@ -67,7 +69,7 @@ HoldsAs c literal = (s : ClusterState) → Holds s c ↔ LiteralHolds s literal
 
 -- the parts of an atom, by its kind
 abbrev pub AtomParts : Type 0
-AtomParts = (((ℕ × Pointstamp) ⊎ (Pointstamp × ℕ)) ⊎ ((ℕ × (ℕ × ℕ)) ⊎ (ℕ × (ℤ × ℕ)))) ⊎ (Pointstamp ⊎ (ℕ × (Pointstamp × ℤ)))
+AtomParts = (((ℕ × Pointstamp) ⊎ (Pointstamp × ℕ)) ⊎ ((ℕ × (ℕ × ℕ)) ⊎ (ℕ × (ℤ × ℕ)))) ⊎ (Pointstamp ⊎ ((ℕ × (Pointstamp × ℤ)) ⊎ (ℕ × (Pointstamp × ℕ))))
 
 abbrev pub atom_parts : Atom → AtomParts
 atom_parts (Passed q point) = inl (inl (inl (q, point)))
@@ -75,7 +77,8 @@ atom_parts (Count point at_least) = inl (inl (inr (point, at_least)))
 atom_parts (Queue from to at_least) = inl (inr (inl (from, (to, at_least))))
 atom_parts (Sink vertex value at_least) = inl (inr (inr (vertex, (value, at_least))))
 atom_parts (Finished point) = inr (inl point)
-atom_parts (View q point at_least) = inr (inr (q, (point, at_least)))
+atom_parts (View q point at_least) = inr (inr (inl (q, (point, at_least))))
+atom_parts (Held p point at_least) = inr (inr (inr (p, (point, at_least))))
 
 abbrev pub atom_of : AtomParts → Atom
 atom_of (inl (inl (inl t))) = Passed t.0 t.1
@@ -83,7 +86,8 @@ atom_of (inl (inl (inr t))) = Count t.0 t.1
 atom_of (inl (inr (inl t))) = Queue t.0 t.1.0 t.1.1
 atom_of (inl (inr (inr t))) = Sink t.0 t.1.0 t.1.1
 atom_of (inr (inl point)) = Finished point
-atom_of (inr (inr t)) = View t.0 t.1.0 t.1.1
+atom_of (inr (inr (inl t))) = View t.0 t.1.0 t.1.1
+atom_of (inr (inr (inr t))) = Held t.0 t.1.0 t.1.1
 
 abbrev pub atom_back : (a : Atom) → atom_of (atom_parts a) ≡ a
 atom_back (Passed q point) = refl
@@ -92,13 +96,14 @@ atom_back (Queue from to at_least) = refl
 atom_back (Sink vertex value at_least) = refl
 atom_back (Finished point) = refl
 atom_back (View q point at_least) = refl
+atom_back (Held p point at_least) = refl
 
 abbrev pub atom_code : Coded Atom
 atom_code =
     code_by AtomParts
     (coded⊎ (coded⊎ (coded⊎ (coded× coded_ℕ point_code) (coded× point_code coded_ℕ))
     (coded⊎ (coded× coded_ℕ (coded× coded_ℕ coded_ℕ)) (coded× coded_ℕ (coded× coded_ℤ coded_ℕ))))
-    (coded⊎ point_code (coded× coded_ℕ (coded× point_code coded_ℤ))))
+    (coded⊎ point_code (coded⊎ (coded× coded_ℕ (coded× point_code coded_ℤ)) (coded× coded_ℕ (coded× point_code coded_ℕ)))))
     atom_parts
     atom_of
     atom_back

@@ -54,6 +54,12 @@ pub enum Atom {
         point: Pointstamp,
         at_least: i64,
     },
+    /// Processor `p` has at least `at_least` records, requests and tokens at the pointstamp.
+    Held {
+        p: u32,
+        point: Pointstamp,
+        at_least: u64,
+    },
 }
 
 // Returns whether the graph has the pointstamp's location.
@@ -99,6 +105,12 @@ impl Atom {
                     && has_place(cluster, point)
                     && *at_least <= cluster.view(q).get(point)
             }
+            Atom::Held { p, point, at_least } => {
+                let p = *p as usize;
+                p < cluster.n()
+                    && has_place(cluster, point)
+                    && u128::from(*at_least) <= cluster.held(p, point)
+            }
         }
     }
 
@@ -134,6 +146,11 @@ impl Atom {
             },
             Atom::View { q, point, at_least } => Atom::View {
                 q: *q,
+                point: point.copy(),
+                at_least: *at_least,
+            },
+            Atom::Held { p, point, at_least } => Atom::Held {
+                p: *p,
                 point: point.copy(),
                 at_least: *at_least,
             },

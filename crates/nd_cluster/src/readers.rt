@@ -3,7 +3,7 @@ ghost use Rattle.std.specs.Prelude.{◌≡◌, ◌<◌, ◌≤◌, ◌^◌, pos,
 ghost use Rattle.nd_time.specs.Limits.{max_processors};
 ghost use Rattle.nd_delta.specs.Delta.{at};
 ghost use Rattle.nd_processor.specs.State.{held, in_requests, in_tokens};
-ghost use Rattle.nd_protocol.specs.State.{truth};
+ghost use Rattle.nd_protocol.specs.State.{processor, truth};
 ghost use Rattle.nd_protocol.specs.Invariant.{IsSettled};
 
 use crate::Cluster;
@@ -60,6 +60,14 @@ impl<A: Allocator + Copy> Cluster<A> {
     {
         truth_is_small();
         count_all(self.processors(), point)
+    }
+
+    /// Returns the number of records, requests and tokens of processor `p` at a pointstamp.
+    pub fn held(&self, p: usize, point: &Pointstamp) -> u128
+        requires { p < length self.now.processors }
+        ensures { result ≡ held (processor self.now p) point.now }
+    {
+        count_held(self.processor(p), point)
     }
 
     /// Returns an equal cluster.
