@@ -9,6 +9,7 @@ use Rattle.nd_timeline.specs.declared.command.Command.{Command}
 use Rattle.nd_timeline.specs.declared.command.Command.TheVariants.{Back, Redo, Jump, Run, SetBreak, ClearBreak}
 use Rattle.rewind_forms.specs.Forms.{given, after, if_any, processors_in}
 use Rattle.rewind_forms.specs.Conditions.{condition_of}
+use Rattle.rewind_forms.specs.Versions.{most_processors}
 use Rattle.rewind_forms.specs.declared.version.Version.{Version}
 use Rattle.rewind_forms.specs.declared.form.CommandForm.{CommandForm}
 use Rattle.rewind_forms.specs.declared.form.CommandForm.TheVariants as form
@@ -19,11 +20,11 @@ abbrev pub jump_of : Data → Result (Command Global) LineFault
 jump_of d = given BadShape (whole_at (codes "to") d) (λ to. Ok (Jump to))
 
 -- a run, of some processors if they are listed, which chooses by a seed if there is one
-unfoldable pub run_of : Data → Result (Command Global) LineFault
-run_of d =
+unfoldable pub run_of : Version → Data → Result (Command Global) LineFault
+run_of v d =
     given BadShape (whole_at (codes "limit") d) (λ limit.
     given BadShape (if_any whole (get (codes "seed") d)) (λ seed.
-    given BadShape (if_any processors_in (get (codes "only") d)) (λ only.
+    given BadShape (if_any (processors_in (most_processors v)) (get (codes "only") d)) (λ only.
     Ok (Run limit only seed))))
 
 unfoldable pub set_of : Version → Dataflow → Data → Result (Command Global) LineFault
@@ -40,6 +41,6 @@ abbrev pub command_of : Version → Dataflow → CommandForm → Data → Result
 command_of v g form.Back d = Ok Back
 command_of v g form.Redo d = Ok Redo
 command_of v g form.Jump d = jump_of d
-command_of v g form.Run d = run_of d
+command_of v g form.Run d = run_of v d
 command_of v g form.Break d = set_of v g d
 command_of v g form.Unbreak d = clear_of d

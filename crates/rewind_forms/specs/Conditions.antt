@@ -19,10 +19,10 @@ use Rattle.rewind_forms.specs.declared.fault.LineFault.{LineFault}
 use Rattle.rewind_forms.specs.declared.fault.LineFault.TheVariants.{BadShape}
 
 -- an atom, or {"not":atom}
-unfoldable pub literal_of : Dataflow → Data → Result Literal LineFault
-literal_of g d =
-    within (alone (codes "not") d) (λ shown. after (atom_of g shown) (λ atom. Ok (Not atom)))
-    (after (atom_of g d) (λ atom. Ok (Is atom)))
+unfoldable pub literal_of : Version → Dataflow → Data → Result Literal LineFault
+literal_of v g d =
+    within (alone (codes "not") d) (λ shown. after (atom_of v g shown) (λ atom. Ok (Not atom)))
+    (after (atom_of v g d) (λ atom. Ok (Is atom)))
 
 -- ---- several literals
 
@@ -38,15 +38,15 @@ beside (Err e) (Ok ls) = Err e
 beside (Err e) (Err f) = Err (lesser e f)
 
 -- the literals that these values are, or the error with the least number
-abbrev pub literals_of : Dataflow → List Data → Result (List Literal) LineFault
-literals_of g [] = Ok []
-literals_of g (d ∷ ds) = beside (literal_of g d) (literals_of g ds)
+abbrev pub literals_of : Version → Dataflow → List Data → Result (List Literal) LineFault
+literals_of v g [] = Ok []
+literals_of v g (d ∷ ds) = beside (literal_of v g d) (literals_of v g ds)
 
 -- all or any of the literals of a list, which has 1 to max_literals items
-unfoldable pub several_of : Dataflow → Quantifier → Data → Result ConditionValue LineFault
-several_of g quantifier d =
+unfoldable pub several_of : Version → Dataflow → Quantifier → Data → Result ConditionValue LineFault
+several_of v g quantifier d =
     given BadShape (list d) (λ ds.
-    if are_few max_literals ds then after (literals_of g ds) (λ literals. Ok (record { quantifier = quantifier; literals = literals }))
+    if are_few max_literals ds then after (literals_of v g ds) (λ literals. Ok (record { quantifier = quantifier; literals = literals }))
     else Err BadShape)
 
 -- ---- one by one
@@ -82,14 +82,14 @@ MakeUp quantifier reading c = (reading ≡ Ok c.literals) × (c.quantifier ≡ q
 -- ---- conditions
 
 -- a literal, {"all":[literal,...]} or {"any":[literal,...]}
-unfoldable pub combined_of : Dataflow → Data → Result ConditionValue LineFault
-combined_of g d =
-    within (alone (codes "all") d) (several_of g All)
-    (within (alone (codes "any") d) (several_of g Any)
-    (after (literal_of g d) (λ literal. Ok (of_literal All literal))))
+unfoldable pub combined_of : Version → Dataflow → Data → Result ConditionValue LineFault
+combined_of v g d =
+    within (alone (codes "all") d) (several_of v g All)
+    (within (alone (codes "any") d) (several_of v g Any)
+    (after (literal_of v g d) (λ literal. Ok (of_literal All literal))))
 
 -- the condition that a value describes in a script of this version
 unfoldable pub condition_of : Version → Dataflow → Data → Result ConditionValue LineFault
 condition_of v g d =
-    if includes v Fourth then combined_of g d
+    if includes v Fourth then combined_of v g d
     else after (first_atom_of g d) (λ atom. Ok (of_literal All (Is atom)))

@@ -5,7 +5,6 @@ use Rattle.serde_json.specs.Data.{Data}
 use Rattle.serde_json.specs.Find.{get}
 use Rattle.serde_json.specs.View.{view}
 use Rattle.nd_json.specs.Forms.{has_keys, text, list, small, integer, text_at, list_at}
-use Rattle.nd_time.specs.Limits.{max_processors}
 use Rattle.nd_graph.specs.Draft.{every}
 use Rattle.rewind_forms.specs.declared.fault.LineFault.{LineFault}
 use Rattle.rewind_forms.specs.declared.fault.LineFault.TheVariants.{Memory}
@@ -104,13 +103,13 @@ values_at key d = option_and_then (every integer) (list_at key d)
 abbrev pub are_few : ℕ → List Data → Bool
 are_few most ds = nat_lt 0 (length ds) && nat_le (length ds) most
 
--- the numbers of some processors, at most as many as a cluster may have
-abbrev pub processors_of : List Data → Option (List ℕ)
-processors_of ds = if are_few max_processors ds then every small ds else None
+-- the numbers of some processors, at most `most`
+abbrev pub processors_of : ℕ → List Data → Option (List ℕ)
+processors_of most ds = if are_few most ds then every small ds else None
 
--- the processors that a value lists
-unfoldable pub processors_in : Data → Option (List ℕ)
-processors_in d = option_and_then processors_of (list d)
+-- the processors that a value lists, at most `most`
+unfoldable pub processors_in : ℕ → Data → Option (List ℕ)
+processors_in most d = option_and_then (processors_of most) (list d)
 
 -- the name at the key, and the numbers of the time at the key "time"
 unfoldable pub named_at : List ℕ → Data → Option (List ℕ × List ℕ)

@@ -1,12 +1,12 @@
 //! What one atom of a condition says.
 ghost use Rattle.std.specs.Prelude.{◌≡◌};
 ghost use Rattle.serde_json.specs.View.{view};
-ghost use Rattle.rewind_forms.specs.Atoms.{passed_of as passed_in, count_of as count_in, queue_of as queue_in, sink_of as sink_in, first_atom_of as first_in, finished_of as finished_in, view_of as view_in, atom_of as atom_in};
+ghost use Rattle.rewind_forms.specs.Atoms.{passed_of as passed_in, count_of as count_in, queue_of as queue_in, sink_of as sink_in, first_atom_of as first_in, finished_of as finished_in, view_of as view_in, held_of as held_in, fourth_atom_of as fourth_in, atom_of as atom_in};
 
-use crate::LineFault;
 use crate::places::vertex_named;
 use crate::points::point_there;
 use crate::shapes::inner;
+use crate::{LineFault, Version};
 use nd_breaks::Atom;
 use nd_graph::Graph;
 use nd_json::{integer_at, small_at, text_at, whole_at};
@@ -71,6 +71,16 @@ fn view_of(graph: &Graph, value: &Value) -> Result<Atom, LineFault>
     Ok(Atom::View { q, point, at_least })
 }
 
+#[tactic(auto, unfolding(crate::specs::Atoms::held_of))]
+fn held_of(graph: &Graph, value: &Value) -> Result<Atom, LineFault>
+    ensures { result ≡ held_in graph.now (view value.now) }
+{
+    let at_least = whole_at(value, "at_least").ok_or(LineFault::BadShape)?;
+    let p = small_at(value, "p").ok_or(LineFault::BadShape)?;
+    let point = point_there(graph, value)?;
+    Ok(Atom::Held { p, point, at_least })
+}
+
 /// Reads the atom that the value describes, for the graph; only the kinds that every version has.
 #[tactic(auto, unfolding(crate::specs::Atoms::first_atom_of))]
 pub fn first_atom_of(graph: &Graph, value: &Value) -> Result<Atom, LineFault>
@@ -89,10 +99,10 @@ pub fn first_atom_of(graph: &Graph, value: &Value) -> Result<Atom, LineFault>
     }
 }
 
-/// Reads the atom that the value describes, of any kind, for the graph.
-#[tactic(auto, unfolding(crate::specs::Atoms::atom_of))]
-pub fn atom_of(graph: &Graph, value: &Value) -> Result<Atom, LineFault>
-    ensures { result ≡ atom_in graph.now (view value.now) }
+// Reads the atom that the value describes, for the graph; only the kinds that the fourth version has.
+#[tactic(auto, unfolding(crate::specs::Atoms::fourth_atom_of))]
+fn fourth_atom_of(graph: &Graph, value: &Value) -> Result<Atom, LineFault>
+    ensures { result ≡ fourth_in graph.now (view value.now) }
 {
     if let Some(shown) = inner(value, "finished", &["at", "time"]) {
         finished_of(graph, shown)
@@ -101,4 +111,17 @@ pub fn atom_of(graph: &Graph, value: &Value) -> Result<Atom, LineFault>
     } else {
         first_atom_of(graph, value)
     }
+}
+
+/// Reads the atom that the value describes in a script of this version, which is at least the fourth, for the graph.
+#[tactic(auto, unfolding(crate::specs::Atoms::atom_of))]
+pub fn atom_of(version: Version, graph: &Graph, value: &Value) -> Result<Atom, LineFault>
+    ensures { result ≡ atom_in version graph.now (view value.now) }
+{
+    if version.includes(Version::Ninth) {
+        if let Some(shown) = inner(value, "held", &["at", "at_least", "p", "time"]) {
+            return held_of(graph, shown);
+        }
+    }
+    fourth_atom_of(graph, value)
 }

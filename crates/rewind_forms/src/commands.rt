@@ -36,14 +36,14 @@ fn listed(alloc: Global, items: Option<&[Value]>) -> Result<Option<Processors>, 
 }
 
 #[tactic(auto, unfolding(crate::specs::Commands::run_of))]
-fn run_of(alloc: Global, value: &Value) -> Result<Command, LineFault>
-    ensures ok { IfOk result (λ c. run_in (view value.now) ≡ Ok c) }
-    ensures err { IfErr result (FailsWith (run_in (view value.now))) }
-    ensures memory { IfErr result (HidesNoFault (run_in (view value.now))) }
+fn run_of(alloc: Global, version: Version, value: &Value) -> Result<Command, LineFault>
+    ensures ok { IfOk result (λ c. run_in version (view value.now) ≡ Ok c) }
+    ensures err { IfErr result (FailsWith (run_in version (view value.now))) }
+    ensures memory { IfErr result (HidesNoFault (run_in version (view value.now))) }
 {
     let limit = whole_at(value, "limit").ok_or(LineFault::BadShape)?;
     let seed = whole_if(value, "seed").ok_or(LineFault::BadShape)?;
-    let items = smalls_if(value, "only").ok_or(LineFault::BadShape)?;
+    let items = smalls_if(value, "only", version.most_processors()).ok_or(LineFault::BadShape)?;
     let only = listed(alloc, items)?;
     Ok(Command::Run { limit, only, seed })
 }
@@ -89,7 +89,7 @@ pub fn command_of(
         CommandForm::Back => Ok(Command::Back),
         CommandForm::Redo => Ok(Command::Redo),
         CommandForm::Jump => jump_of(value),
-        CommandForm::Run => run_of(alloc, value),
+        CommandForm::Run => run_of(alloc, version, value),
         CommandForm::Break => set_of(alloc, version, graph, value),
         CommandForm::Unbreak => clear_of(value),
     }

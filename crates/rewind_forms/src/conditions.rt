@@ -16,14 +16,14 @@ use serde_json::Value;
 
 // Returns the literal that the value describes.
 #[tactic(auto, unfolding(crate::specs::Conditions::literal_of))]
-fn literal_of(graph: &Graph, value: &Value) -> Result<Literal, LineFault>
-    ensures { result ≡ literal_in graph.now (view value.now) }
+fn literal_of(version: Version, graph: &Graph, value: &Value) -> Result<Literal, LineFault>
+    ensures { result ≡ literal_in version graph.now (view value.now) }
 {
     if let Some(shown) = alone(value, "not") {
-        let atom = atom_of(graph, shown)?;
+        let atom = atom_of(version, graph, shown)?;
         Ok(Literal::Not(atom))
     } else {
-        let atom = atom_of(graph, value)?;
+        let atom = atom_of(version, graph, value)?;
         Ok(Literal::Is(atom))
     }
 }
@@ -71,18 +71,19 @@ fn and_fault(read: &Read, fault: LineFault) -> LineFault
 
 // Reads the literals that the items describe, all or any of which must hold.
 fn literals_of(
+    version: Version,
     graph: &Graph,
     quantifier: Quantifier,
     items: &[Value],
 ) -> Result<Condition, LineFault>
     requires some { 0 < length items.now }
     requires few { length items.now ≤ max_literals }
-    ensures ok { IfOk result (MakeUp quantifier (literals_in graph.now (map view items.now))) }
-    ensures err { IfErr result (λ e. literals_in graph.now (map view items.now) ≡ Err e) }
+    ensures ok { IfOk result (MakeUp quantifier (literals_in version graph.now (map view items.now))) }
+    ensures err { IfErr result (λ e. literals_in version graph.now (map view items.now) ≡ Err e) }
 {
     let mut read: Read = Ok(None);
     for item in items {
-        read = match literal_of(graph, item) {
+        read = match literal_of(version, graph, item) {
             Ok(literal) => and_literal(read, quantifier, literal),
             Err(fault) => Err(and_fault(&read, fault)),
         };
@@ -95,27 +96,32 @@ fn literals_of(
 
 // Returns the condition of all or any of the literals in the list.
 #[tactic(auto, unfolding(crate::specs::Conditions::several_of))]
-fn several_of(graph: &Graph, quantifier: Quantifier, value: &Value) -> Result<Condition, LineFault>
-    ensures { result ≡ several_in graph.now quantifier (view value.now) }
+fn several_of(
+    version: Version,
+    graph: &Graph,
+    quantifier: Quantifier,
+    value: &Value,
+) -> Result<Condition, LineFault>
+    ensures { result ≡ several_in version graph.now quantifier (view value.now) }
 {
     let items = list(value).ok_or(LineFault::BadShape)?;
     if items.is_empty() || items.len() > MAX_LITERALS {
         return Err(LineFault::BadShape);
     }
-    literals_of(graph, quantifier, items)
+    literals_of(version, graph, quantifier, items)
 }
 
 // Returns the condition that the value describes: a literal, or all or any of several.
 #[tactic(auto, unfolding(crate::specs::Conditions::combined_of))]
-fn combined_of(graph: &Graph, value: &Value) -> Result<Condition, LineFault>
-    ensures { result ≡ combined_in graph.now (view value.now) }
+fn combined_of(version: Version, graph: &Graph, value: &Value) -> Result<Condition, LineFault>
+    ensures { result ≡ combined_in version graph.now (view value.now) }
 {
     if let Some(shown) = alone(value, "all") {
-        several_of(graph, Quantifier::All, shown)
+        several_of(version, graph, Quantifier::All, shown)
     } else if let Some(shown) = alone(value, "any") {
-        several_of(graph, Quantifier::Any, shown)
+        several_of(version, graph, Quantifier::Any, shown)
     } else {
-        let literal = literal_of(graph, value)?;
+        let literal = literal_of(version, graph, value)?;
         Ok(Condition::new(Quantifier::All, literal))
     }
 }
@@ -128,7 +134,7 @@ pub fn condition_of(version: Version, graph: &Graph, value: &Value) -> Result<Co
     ensures { result ≡ condition_in version graph.now (view value.now) }
 {
     if version.includes(Version::Fourth) {
-        return combined_of(graph, value);
+        return combined_of(version, graph, value);
     }
     let atom = first_atom_of(graph, value)?;
     Ok(Condition::new(Quantifier::All, Literal::Is(atom)))

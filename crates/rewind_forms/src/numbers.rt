@@ -9,7 +9,7 @@ ghost use Rattle.rewind_forms.specs.Forms.{all_read, are_read, numbers_of as num
 use arrayvec::ArrayVec;
 use nd_json::{integer, list_at, small};
 use nd_protocol::{Processors, Values};
-use nd_time::limits::{MAX_DEPTH, MAX_PROCESSORS};
+use nd_time::limits::MAX_DEPTH;
 use serde_json::Value;
 use std::alloc::{AllocError, Global};
 
@@ -125,13 +125,12 @@ pub fn values_of(alloc: Global, items: &[Value]) -> Result<Values, AllocError>
     Ok(values)
 }
 
-/// Returns the items, if each is a number from 0 to 2^32 - 1 and they are at least one, and at most as many as the
-/// processors of a cluster.
-pub fn smalls_of(items: &[Value]) -> Option<&[Value]>
+/// Returns the items, if each is a number from 0 to 2^32 - 1 and they are at least one, and at most `most`.
+pub fn smalls_of(items: &[Value], most: usize) -> Option<&[Value]>
     ensures { option_map (λ ns. all_read small_in (map view ns.now)) result
-        ≡ processors_from (map view items.now) }
+        ≡ processors_from most (map view items.now) }
 {
-    if items.is_empty() || items.len() > MAX_PROCESSORS {
+    if items.is_empty() || items.len() > most {
         return None;
     }
     smalls(items)

@@ -54,16 +54,16 @@ pub fn numbers_if<'v>(value: &'v Value, key: &str) -> Option<Option<&'v [Value]>
     Some(Some(numbers_of(list(shown)?)?))
 }
 
-/// Returns the processors that are listed at the key.
+/// Returns the processors that are listed at the key, at most `most`.
 #[tactic(auto, unfolding(crate::specs::Forms::processors_in))]
-pub fn smalls_if<'v>(value: &'v Value, key: &str) -> Option<Option<&'v [Value]>>
+pub fn smalls_if<'v>(value: &'v Value, key: &str, most: usize) -> Option<Option<&'v [Value]>>
     ensures { option_map (option_map (λ ns. all_read small_in (map view ns.now))) result
-        ≡ if_any processors_in (get key.now (view value.now)) }
+        ≡ if_any (processors_in most) (get key.now (view value.now)) }
 {
     let Some(shown) = value.get(key) else {
         return Some(None);
     };
-    Some(Some(smalls_of(list(shown)?)?))
+    Some(Some(smalls_of(list(shown)?, most)?))
 }
 
 /// Returns the words that are listed at the key.

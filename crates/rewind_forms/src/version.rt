@@ -1,9 +1,12 @@
 //! The version of a script.
 ghost use Rattle.std.specs.Prelude.{◌≡◌};
 ghost use Rattle.serde_json.specs.View.{view};
-ghost use Rattle.rewind_forms.specs.Versions.{number_of, numbered as numbered_in, version_of as version_in, includes as includes_in};
+ghost use Rattle.rewind_forms.specs.Versions.{number_of, numbered as numbered_in, version_of as version_in, includes as includes_in, most_processors as most_in, longest_graph as longest_in};
 
 use nd_json::{has_keys, whole_at};
+use nd_time::limits::{
+    MAX_GRAPH_LINE, MAX_LINE, MAX_PROCESSORS, MAX_PROCESSORS_V1, MAX_PROCESSORS_V8,
+};
 use serde_json::Value;
 
 /// The version of a script, which determines what its lines may ask for.
@@ -26,6 +29,9 @@ pub enum Version {
     Seventh,
     /// Adds queries why a time is not considered finished when all that can happen has happened.
     Eighth,
+    /// Adds timestamps that compare by components, graphs of 4,096 locations, 64 processors, names with spaces, and conditions on
+    /// what one processor holds.
+    Ninth,
 }
 
 impl Version {
@@ -42,6 +48,7 @@ impl Version {
             Version::Sixth => 6,
             Version::Seventh => 7,
             Version::Eighth => 8,
+            Version::Ninth => 9,
         }
     }
 
@@ -50,6 +57,30 @@ impl Version {
         ensures { result ≡ includes_in self since }
     {
         self.number() >= since.number()
+    }
+
+    /// Returns the most processors in a script of this version.
+    pub fn most_processors(self) -> usize
+        ensures { result ≡ most_in self }
+    {
+        if self.includes(Version::Ninth) {
+            MAX_PROCESSORS
+        } else if self.includes(Version::Second) {
+            MAX_PROCESSORS_V8
+        } else {
+            MAX_PROCESSORS_V1
+        }
+    }
+
+    /// Returns how many bytes the graph's line may have in a script of this version.
+    pub fn longest_graph(self) -> usize
+        ensures { result ≡ longest_in self }
+    {
+        if self.includes(Version::Ninth) {
+            MAX_GRAPH_LINE
+        } else {
+            MAX_LINE
+        }
     }
 }
 
@@ -72,6 +103,8 @@ fn numbered(number: u64) -> Option<Version>
         Some(Version::Seventh)
     } else if number == 8 {
         Some(Version::Eighth)
+    } else if number == 9 {
+        Some(Version::Ninth)
     } else {
         None
     }
