@@ -27,7 +27,7 @@ use Rattle.nd_history.specs.Least.{HoldsAt, IsLeast as IsLeastHit}
 use Rattle.nd_history.specs.Answers.{MaySearch, SearchFails}
 use Rattle.nd_history.specs.declared.fault.SearchFault.{SearchFault}
 use Rattle.rewind_forms.specs.declared.queries.Search.{Search}
-use Rattle.rewind_answers.specs.Answers.{Logged, running, refused, most_processors, StartReplies, not_strict, draft_in, checked_in, graph_of, graph_of_draft, AskedReply, FormReplies, LineReplies, FrontierReply, SearchReply, searched, unanswered, search_fault}
+use Rattle.rewind_answers.specs.Answers.{Logged, running, refused, StartReplies, not_strict, draft_in, checked_in, graph_of, graph_of_draft, AskedReply, FormReplies, LineReplies, FrontierReply, SearchReply, searched, unanswered, search_fault}
 
 -- a value that is not a draft
 pub graph_of-refused : (v : Version) (d : Data) (e : GraphFault) → IsUnlessMemory (ok_or (draft_in v d) Shape) (Err e) → IsUnlessMemory (graph_of v d) (Err e)

@@ -4,10 +4,10 @@ use Rattle.std.specs.Option.{option_to_list}
 use Rattle.std.specs.declared.alloc.Global.{Global}
 use Rattle.serde_json.specs.Data.{Data}
 use Rattle.rewind_lines.specs.Lines.{Reading, blank, too_long, no_json, json}
-use Rattle.nd_time.specs.Limits.{max_log, max_processors, max_processors_v1}
+use Rattle.nd_time.specs.Limits.{max_line, max_log}
 use Rattle.nd_graph.specs.Graph.{Dataflow, location_count, names}
-use Rattle.nd_graph.specs.Draft.{Draft, draft_of, draft_of_v4, draft_of_v5}
-use Rattle.nd_graph.specs.Checked.{checked, checked_v1, checked_v5}
+use Rattle.nd_graph.specs.Draft.{Draft, draft_of, draft_of_v4, draft_of_v5, draft_of_v8}
+use Rattle.nd_graph.specs.Checked.{checked, checked_v1, checked_v5, checked_v8}
 use Rattle.nd_graph.specs.Fault.{code_of}
 use Rattle.nd_graph.specs.declared.fault.GraphFault.{GraphFault}
 use Rattle.nd_graph.specs.declared.fault.GraphFault.TheVariants.{Shape}
@@ -35,11 +35,11 @@ use Rattle.nd_session.specs.Faults.{code_of as code_of_session}
 use Rattle.nd_session.specs.declared.fault.SessionFault.{SessionFault}
 use Rattle.nd_session.specs.declared.fault.SessionFault.TheVariants.{LogFull, Memory}
 use Rattle.rewind_forms.specs.Asked.{asked_of}
-use Rattle.rewind_forms.specs.Versions.{number_of as number_of_version, version_of, includes}
+use Rattle.rewind_forms.specs.Versions.{number_of as number_of_version, version_of, includes, most_processors, longest_graph}
 use Rattle.rewind_replies.specs.Replies.{version, fault, location_fault, piece_fault, graph, reply_data, faulty, count, before, state, known, frontier, passed, not_passed, no_processor, found}
 use Rattle.rewind_forms.specs.LineFaults.{code_of as code_of_line}
 use Rattle.rewind_forms.specs.declared.version.Version.{Version}
-use Rattle.rewind_forms.specs.declared.version.Version.TheVariants.{First, Second, Fifth, Sixth}
+use Rattle.rewind_forms.specs.declared.version.Version.TheVariants.{First, Second, Fifth, Sixth, Ninth}
 use Rattle.rewind_forms.specs.declared.fault.LineFault.{LineFault}
 use Rattle.rewind_forms.specs.declared.fault.LineFault.TheVariants.{LineTooLong, BadLine}
 use Rattle.rewind_forms.specs.declared.asked.Asked.{Asked}
@@ -66,17 +66,26 @@ pub data Phase : Type 0 where
   running : Version → Logged → Phase
   refused : Phase
 
+-- how many bytes the next line may have: the graph's line may be longer than others
+abbrev pub limit_in : Phase → ℕ
+limit_in (unstarted version processors) = longest_graph version
+limit_in _ = max_line
+
 -- ---- the graph's line
 
--- the graph that a value describes in a script of this version; before the sixth version no vertex can be opaque, and before the
--- fifth none can be a hold
+-- the graph that a value describes in a script of this version; before the ninth version names are shorter and timestamps have one
+-- order, before the sixth no vertex can be opaque, and before the fifth none can be a hold
 abbrev pub draft_in : Version → Data → Option Draft
-draft_in v d = if includes v Sixth then draft_of d else (if includes v Fifth then draft_of_v5 d else draft_of_v4 d)
+draft_in v d =
+    if includes v Ninth then draft_of d
+    else (if includes v Sixth then draft_of_v8 d else (if includes v Fifth then draft_of_v5 d else draft_of_v4 d))
 
--- the check of a draft in a script of this version; before the sixth version there may be fewer locations, and the first has a
--- smaller limit of depth
+-- the check of a draft in a script of this version; before the ninth version there may be fewer locations, before the sixth still
+-- fewer, and the first has a smaller limit of depth
 abbrev pub checked_in : Version → Draft → Result Dataflow GraphFault
-checked_in v draft = if includes v Sixth then checked draft else (if includes v Second then checked_v5 draft else checked_v1 draft)
+checked_in v draft =
+    if includes v Ninth then checked draft
+    else (if includes v Sixth then checked_v8 draft else (if includes v Second then checked_v5 draft else checked_v1 draft))
 
 -- the graph of a draft, or the error
 abbrev pub graph_of_draft : Version → Option Draft → Result Dataflow GraphFault
@@ -86,10 +95,6 @@ graph_of_draft v (Some draft) = checked_in v draft
 -- the graph that a value describes, or the error
 unfoldable pub graph_of : Version → Data → Result Dataflow GraphFault
 graph_of v d = graph_of_draft v (draft_in v d)
-
--- the most processors of a cluster in a script of this version
-abbrev pub most_processors : Version → ℕ
-most_processors v = if includes v Second then max_processors else max_processors_v1
 
 -- the reply if no cluster starts on a graph: there are more processors than the version allows, or the start is refused
 pub data RefusedReply (v : Version) (processors : ℕ) (g : Dataflow) (reply : Data) : Type 0 where

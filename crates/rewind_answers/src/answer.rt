@@ -3,7 +3,7 @@ ghost use Rattle.std.specs.Prelude.{◌≡◌, ◌∷◌, [], Ok, IfOk, OnErr, o
 ghost use Rattle.nd_graph.specs.Fault.{IsUnlessMemory};
 ghost use Rattle.nd_graph.specs.declared.fault.GraphFault.TheVariants.{Shape};
 ghost use Rattle.serde_json.specs.View.{view};
-ghost use Rattle.rewind_answers.specs.Answers.{draft_in, checked_in, graph_of as graph_in, most_processors as most_in, LineReplies, AskedReply, CommandReply};
+ghost use Rattle.rewind_answers.specs.Answers.{draft_in, checked_in, graph_of as graph_in, LineReplies, AskedReply, CommandReply};
 ghost use Rattle.rewind_replies.specs.Replies.{IsReply};
 ghost use Rattle.rewind_answers.specs.Stages.{IsOrFollows, Starts, logged, phase_in};
 ghost use Rattle.nd_protocol.specs.Invariant.{KeepsProtocol};
@@ -15,7 +15,6 @@ use crate::stage::Script;
 use nd_cluster::{Cluster, StartFault};
 use nd_graph::{Graph, GraphDraft, GraphFault};
 use nd_session::State;
-use nd_time::limits::{MAX_PROCESSORS, MAX_PROCESSORS_V1};
 use nd_timeline::{Command, Timeline};
 use rewind_forms::{Asked, Version, asked_of};
 use rewind_replies::{ErrorReply, GraphReply, NoNames, text_of};
@@ -26,13 +25,15 @@ use std::thread::Threads;
 /// The number of the only client.
 const ONLY_CLIENT: u64 = 0;
 
-// Returns the draft that the value describes in a script of this version. Before the sixth version no vertex can be opaque, and
-// before the fifth none can be a hold.
+// Returns the draft that the value describes in a script of this version. Before the ninth version names are shorter and
+// timestamps have one order, before the sixth no vertex can be opaque, and before the fifth none can be a hold.
 fn draft_of(alloc: Global, version: Version, value: &Value) -> Result<GraphDraft, GraphFault>
     ensures { IsUnlessMemory (ok_or (draft_in version (view value.now)) Shape) result }
 {
-    if version.includes(Version::Sixth) {
+    if version.includes(Version::Ninth) {
         GraphDraft::from_value(alloc, value)
+    } else if version.includes(Version::Sixth) {
+        GraphDraft::from_value_v8(alloc, value)
     } else if version.includes(Version::Fifth) {
         GraphDraft::from_value_v5(alloc, value)
     } else {
@@ -44,8 +45,10 @@ fn draft_of(alloc: Global, version: Version, value: &Value) -> Result<GraphDraft
 fn judged(alloc: Global, version: Version, draft: GraphDraft) -> Result<Graph, GraphFault>
     ensures { IsUnlessMemory (checked_in version draft) result }
 {
-    if version.includes(Version::Sixth) {
+    if version.includes(Version::Ninth) {
         draft.check(alloc)
+    } else if version.includes(Version::Sixth) {
+        draft.check_v8(alloc)
     } else if version.includes(Version::Second) {
         draft.check_v5(alloc)
     } else {
@@ -62,17 +65,6 @@ fn graph_of(alloc: Global, version: Version, value: &Value) -> Result<Graph, Gra
         Err(fault) => return Err(fault),
     };
     judged(alloc, version, draft)
-}
-
-// Returns the most processors in a script of this version.
-fn most_processors(version: Version) -> u8
-    ensures { result ≡ most_in version }
-{
-    if version.includes(Version::Second) {
-        MAX_PROCESSORS as u8
-    } else {
-        MAX_PROCESSORS_V1 as u8
-    }
 }
 
 /// What the graph's line gives: a `State`, or the reply to a graph that is refused.
@@ -98,7 +90,7 @@ fn start_on(
 ) -> Result<First, AllocError>
     ensures replies { IfOk result (λ r. Starts version processors (Ok graph) r) }
 {
-    if processors > most_processors(version) {
+    if usize::from(processors) > version.most_processors() {
         return Ok(First::Refused(ErrorReply::Plain(StartFault::BadCount.code())));
     }
     let names = graph.copy(alloc)?;

@@ -6,7 +6,7 @@ ghost use Rattle.rewind_lines.specs.Lines.{json};
 ghost use Rattle.rewind_lines.specs.Readings.{reading_view};
 ghost use Rattle.serde_json.specs.Written.{compact_text};
 ghost use Rattle.rewind_replies.specs.Replies.{version as version_data};
-ghost use Rattle.rewind_answers.specs.Answers.{graph_of, StartReplies, OpeningReplies, Answers, after_fault};
+ghost use Rattle.rewind_answers.specs.Answers.{graph_of, limit_in, StartReplies, OpeningReplies, Answers, after_fault};
 ghost use Rattle.rewind_forms.specs.Versions.{number_of, version_of as version_in};
 ghost use Rattle.rewind_answers.specs.FaultyLines.{line_fault as line_fault_data};
 ghost use Rattle.rewind_answers.specs.Stages.{IsOrFollows, AreReplies, phase_of, phase_after};
@@ -14,6 +14,7 @@ ghost use Rattle.rewind_answers.specs.Stages.{IsOrFollows, AreReplies, phase_of,
 use crate::answer::{First, Started, answer_first, answer_later};
 use crate::faulty_lines::line_fault;
 use nd_session::State;
+use nd_time::limits::MAX_LINE;
 use rewind_forms::{LineFault, Version, version_of};
 use rewind_lines::Reading;
 use rewind_replies::{NoNames, object, text_of};
@@ -28,6 +29,18 @@ pub enum Stage {
     Unopened(u8),
     Unstarted(Version, u8),
     Running(Script),
+}
+
+impl Stage {
+    /// Returns how many bytes the next line may have.
+    pub fn limit(&self) -> usize
+        ensures { result ≡ limit_in (phase_of self.now) }
+    {
+        match self {
+            Stage::Unstarted(version, _) => version.longest_graph(),
+            Stage::Unopened(_) | Stage::Running(_) => MAX_LINE,
+        }
+    }
 }
 
 /// A script of this version whose graph is accepted.

@@ -8,48 +8,51 @@ use Rattle.rewind_lines.specs.Front.{held_of}
 use Rattle.rewind_lines.specs.Known.{read-failed, read-none, read-on}
 use Rattle.rewind_lines.specs.Lines.{Reading, has_newline, last_line_of, lines_of, reading_of, whole_lines_of}
 use Rattle.rewind_options.specs.declared.options.Options.{Options}
-use Rattle.rewind_clients.specs.Intake.{Intake, Reads, ReadsLine, nothing}
+use Rattle.rewind_clients.specs.Intake.{Intake, Reads, ReadsLine, limit_after, nothing}
 use Rattle.rewind_clients.specs.Intakes.{intake_view}
 use Rattle.rewind_clients.specs.Clients.{ReadPart, ReadWhole}
 use Rattle.rewind_clients.specs.Readers.{Going, StandsAt}
+use Rattle.nd_time.specs.Limits.{max_line}
+use Rattle.rewind_clients.specs.declared.intake.Intake as declared
 use Rattle.rewind_clients.specs.declared.reader.Reader.{Reader}
 
 -- one more line is read
 pub Reads-push : (processors clients : ℕ) (old mid new : Intake) (k n : ℕ) (lines : List (List ℕ)) (line : List ℕ) → n ≡ k + length lines
-    → Reads processors clients old k lines mid → ReadsLine processors clients mid n (reading_of line) new → Reads processors clients old k (lines ++ line ∷ []) new
+    → Reads processors clients old k lines mid → ReadsLine processors clients mid n (reading_of (limit_after mid) line) new → Reads processors clients old k (lines ++ line ∷ []) new
 unfolding Reads
 Reads-push processors clients old mid new k n [] line e h a =
     let same : n ≡ k = omega arith in
-    (new, subst (λ (m : ℕ). ReadsLine processors clients old m (reading_of line) new) same (subst (λ (p : Intake). ReadsLine processors clients p n (reading_of line) new) h a), refl)
+    let mine : ReadsLine processors clients old n (reading_of (limit_after old) line) new = subst (λ (p : Intake). ReadsLine processors clients p n (reading_of (limit_after p) line) new) h a in
+    (new, subst (λ (m : ℕ). ReadsLine processors clients old m (reading_of (limit_after old) line) new) same mine, refl)
 Reads-push processors clients old mid new k n (l ∷ ls) line e h a =
     let count : n ≡ (k + 1) + length ls = omega arith in
     (h.0, h.1, Reads-push processors clients h.0 mid new (k + 1) n ls line count h.2 a)
 
-pub stands-new : (o : Options) (r : Reader) → r.lines ≡ held_of [] → intake_view r.intake ≡ nothing → r.options ≡ o → StandsAt o [] r
+pub stands-new : (o : Options) (r : Reader) → r.lines ≡ held_of max_line [] → intake_view r.intake ≡ nothing → r.options ≡ o → StandsAt o [] r
 unfolding Reads
-stands-new o r held none same = record { held = held; reads = rw whole_lines-empty none; same = same }
+stands-new o r held none same = record { held = held ∙ ap (λ (i : Intake). held_of (limit_after i) []) (sym none); reads = rw whole_lines-empty none; same = same }
 
 -- more bytes of the same line
 pub stands-on : (o : Options) (done bytes : List ℕ) (r next : Reader) → has_newline bytes ≡ false → StandsAt o done r
-    → ((d : List ℕ) → r.lines ≡ held_of d → next.lines ≡ held_of (d ++ bytes)) → next.intake ≡ r.intake → next.options ≡ r.options
+    → ((limit : ℕ) (d : List ℕ) → r.lines ≡ held_of limit d → next.lines ≡ held_of limit (d ++ bytes)) → next.intake ≡ r.intake → next.options ≡ r.options
     → StandsAt o (done ++ bytes) next
 stands-on o done bytes r next none s hold intake same = record {
-  held = hold done s.held;
+  held = hold _ done s.held ∙ ap (λ (i : declared.Intake). held_of (limit_after (intake_view i)) (done ++ bytes)) (sym intake);
   reads = rw (whole_lines-on done bytes none, intake) s.reads;
   same = same ∙ s.same;
 }
 
 -- the next line begins
-pub stands-next : (o : Options) (done : List ℕ) (r next : Reader) (number : ℕ) (reading : Reading) → StandsAt o done r → number ≡ r.lines.number → reading ≡ reading_of (last_line_of done)
+pub stands-next : (o : Options) (done : List ℕ) (r next : Reader) (number : ℕ) (reading : Reading) → StandsAt o done r → number ≡ r.lines.number → reading ≡ reading_of (limit_after (intake_view r.intake)) (last_line_of done)
     → ReadsLine r.options.processors r.options.clients (intake_view r.intake) number reading (intake_view next.intake)
-    → ((d : List ℕ) → r.lines ≡ held_of d → next.lines ≡ held_of (d ++ 10 ∷ [])) → next.options ≡ r.options
+    → ((limit : ℕ) (d : List ℕ) → r.lines ≡ held_of limit d → next.lines ≡ held_of (limit_after (intake_view next.intake)) (d ++ 10 ∷ [])) → next.options ≡ r.options
     → StandsAt o (done ++ 10 ∷ []) next
 stands-next o done r next number reading s at is a hold same = record {
-  held = hold done s.held;
+  held = hold _ done s.held;
   reads =
       let b : ReadsLine o.processors o.clients (intake_view r.intake) number reading (intake_view next.intake) =
       subst (λ (p : Options). ReadsLine p.processors p.clients (intake_view r.intake) number reading (intake_view next.intake)) s.same a in
-      let d : ReadsLine o.processors o.clients (intake_view r.intake) number (reading_of (last_line_of done)) (intake_view next.intake) =
+      let d : ReadsLine o.processors o.clients (intake_view r.intake) number (reading_of (limit_after (intake_view r.intake)) (last_line_of done)) (intake_view next.intake) =
       subst (λ (l : Reading). ReadsLine o.processors o.clients (intake_view r.intake) number l (intake_view next.intake)) is b in
       let count : number ≡ 1 + length (whole_lines_of done) = at ∙ (ap (λ h. h.number) s.held ∙ lines-count done) in
       rw (whole_lines-newline done, lines-split done)

@@ -2,7 +2,9 @@
 use Rattle.std.specs.Prelude.{◌≡◌, ℕ, ◌+◌, List, [], ◌∷◌, ◌++◌, length, replicate, slice_set, slice_index_or, Result, Ok, Err}
 use Rattle.serde_json.specs.Data.{Data}
 use Rattle.nd_timeline.specs.Timeline.{cluster_of}
+use Rattle.nd_time.specs.Limits.{max_line}
 use Rattle.rewind_lines.specs.Lines.{Reading, blank, reading_of}
+use Rattle.rewind_forms.specs.Versions.{longest_graph}
 use Rattle.rewind_forms.specs.declared.version.Version.{Version}
 use Rattle.rewind_answers.specs.Answers.{Answers, Logged, Phase, unopened, unstarted, running, refused}
 use Rattle.rewind_sessions.specs.Orders.{order_in, order_fault}
@@ -19,6 +21,11 @@ pub data Intake : Type 0 where
   refused_graph : Data → Intake
   faulty_line : Data → Intake
   script : Version → List Data → Logged → Commands → Intake
+
+-- how many bytes the next line may have: the graph's line may be longer than others
+abbrev pub limit_after : Intake → ℕ
+limit_after (opened version reply) = longest_graph version
+limit_after _ = max_line
 
 -- the commands with one more command at the end of its client's
 abbrev pub with_command : Order → Commands → Commands
@@ -64,4 +71,4 @@ ReadsLine processors clients (script version opening machine commands) n reading
 unfoldable pub Reads : ℕ → ℕ → Intake → ℕ → List (List ℕ) → Intake → Type 0
 Reads processors clients old n [] new = new ≡ old
 Reads processors clients old n (line ∷ lines) new =
-    (mid : Intake) × ReadsLine processors clients old n (reading_of line) mid × Reads processors clients mid (n + 1) lines new
+    (mid : Intake) × ReadsLine processors clients old n (reading_of (limit_after old) line) mid × Reads processors clients mid (n + 1) lines new

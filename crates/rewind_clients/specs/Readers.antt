@@ -5,13 +5,13 @@ use Rattle.rewind_lines.specs.Lines.{whole_lines_of}
 use Rattle.rewind_options.specs.declared.fault.DebugFault.{DebugFault}
 use Rattle.rewind_options.specs.declared.fault.DebugFault.TheVariants as fault
 use Rattle.rewind_options.specs.declared.options.Options.{Options}
-use Rattle.rewind_clients.specs.Intake.{Reads, nothing}
+use Rattle.rewind_clients.specs.Intake.{Reads, limit_after, nothing}
 use Rattle.rewind_clients.specs.Intakes.{intake_view}
 use Rattle.rewind_clients.specs.declared.reader.Reader.{Reader}
 
 -- `done` was read, and its complete lines were taken in
 pub record StandsAt (options : Options) (done : List ℕ) (reader : Reader) : Type 0 where
-  pub held : reader.lines ≡ held_of done
+  pub held : reader.lines ≡ held_of (limit_after (intake_view reader.intake)) done
   pub reads : Reads options.processors options.clients nothing 1 (whole_lines_of done) (intake_view reader.intake)
   pub same : reader.options ≡ options
 

@@ -10,10 +10,11 @@ ghost use Rattle.rewind_replies.specs.Replies.{faulty};
 ghost use Rattle.rewind_answers.specs.Stages.{logged};
 ghost use Rattle.rewind_sessions.specs.Orders.{order_in as order_line};
 ghost use Rattle.rewind_sessions.specs.Runs.{lists_of};
-ghost use Rattle.rewind_clients.specs.Intake.{ReadsLine, no_commands as no_commands_in, ordered, with_command};
+ghost use Rattle.rewind_clients.specs.Intake.{ReadsLine, limit_after, no_commands as no_commands_in, ordered, with_command};
 ghost use Rattle.rewind_clients.specs.Intakes.{intake_view, opening_replies, or_faulty, unstarted_view, version_of as version_in, Starts};
 
 use nd_session::State;
+use nd_time::limits::MAX_LINE;
 use nd_timeline::Command;
 use rewind_answers::{First, Started, answer_first};
 use rewind_forms::{LineFault, Version, version_of};
@@ -171,6 +172,19 @@ impl Script {
 }
 
 impl Intake {
+    /// Returns how many bytes the next line may have.
+    pub fn limit(&self) -> usize
+        ensures { result ≡ limit_after (intake_view self.now) }
+    {
+        match self {
+            Intake::Unstarted(Some(version)) => version.longest_graph(),
+            Intake::Unstarted(None)
+            | Intake::Refused(_)
+            | Intake::Faulty(_)
+            | Intake::Whole(_) => MAX_LINE,
+        }
+    }
+
     /// Processes the line with this number.
     pub fn read_line(
         &mut self,

@@ -45,7 +45,8 @@ impl Reader {
         let number = self.lines.number();
         self.intake
             .read_line(self.alloc, &self.options, reading, number)?;
-        self.lines.begin_next();
+        let limit = self.intake.limit();
+        self.lines.begin_next(limit);
         Ok(())
     }
 

@@ -5,10 +5,12 @@ use Rattle.std.proofs.Math.Seq.{take-append-add}
 use Rattle.std.specs.Io.KnownBytes.{Appends}
 use Rattle.serde_json.specs.Data.{Data}
 use Rattle.rewind_lines.specs.Cuts.{up_to, whole_lines-front}
+use Rattle.rewind_lines.specs.Front.{held_of}
 use Rattle.rewind_lines.specs.Known.{Known, written-on}
 use Rattle.rewind_lines.specs.Lines.{whole_lines_of}
 use Rattle.rewind_lines.specs.Texts.{text_of}
-use Rattle.rewind_answers.specs.Answers.{Phase}
+use Rattle.rewind_answers.specs.Answers.{Phase, limit_in}
+use Rattle.rewind_answers.specs.declared.stage.Stage.{Stage}
 use Rattle.rewind_run.specs.Script.{Replies, WroteFront}
 use Rattle.rewind_answers.specs.Stages.{phase_of}
 use Rattle.rewind_run.specs.States.{Answered, EndsEarly, Faulted, Stands, Stopped}
@@ -23,7 +25,7 @@ answered-flush n done before sent old new run next s e h none lines stage replie
   sent = sent ++ run.outbox;
   stands = record {
     replies = s.replies;
-    held = lines ∙ s.held;
+    held = lines ∙ (s.held ∙ ap (λ (st : Stage). held_of (limit_in (phase_of st)) done) (sym stage));
     ran = rw stage s.ran;
     text = s.text ∙ sym (ap (λ t. (sent ++ run.outbox) ++ t) none ∙ append-nil (sent ++ run.outbox));
     replied = replied ∙ s.replied;

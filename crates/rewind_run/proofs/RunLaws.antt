@@ -5,18 +5,18 @@ use Rattle.serde_json.specs.Data.{Data}
 use Rattle.std.specs.declared.alloc.Global.{Global}
 use Rattle.rewind_lines.specs.Lines.{Reading, reading_of}
 use Rattle.rewind_lines.specs.Texts.{reply_text}
-use Rattle.rewind_answers.specs.Answers.{Answers, Phase}
+use Rattle.rewind_answers.specs.Answers.{Answers, Phase, limit_in}
 use Rattle.rewind_answers.specs.Stages.{AreReplies}
 use Rattle.rewind_run.specs.Script.{Run}
 use Rattle.rewind_run.specs.States.{Gathers}
 
 pub Run-push : (old mid new : Phase) (k n : ℕ) (lines : List (List ℕ)) (line : List ℕ) (replies first : List Data) → n ≡ k + length lines
-    → Run old k lines replies mid → Answers mid n (reading_of line) first new → Run old k (lines ++ line ∷ []) (replies ++ first) new
+    → Run old k lines replies mid → Answers mid n (reading_of (limit_in mid) line) first new → Run old k (lines ++ line ∷ []) (replies ++ first) new
 unfolding Run
 Run-push old mid new k n [] line replies first e h a =
     let same : n ≡ k = omega arith in
-    let mine : Answers old k (reading_of line) first new =
-    subst (λ (m : ℕ). Answers old m (reading_of line) first new) same (subst (λ (p : Phase). Answers p n (reading_of line) first new) h.1 a) in
+    let mine : Answers old k (reading_of (limit_in old) line) first new =
+    subst (λ (m : ℕ). Answers old m (reading_of (limit_in old) line) first new) same (subst (λ (p : Phase). Answers p n (reading_of (limit_in p) line) first new) h.1 a) in
     (first, new, [], mine, (refl, refl), ap (λ rs. rs ++ first) h.0 ∙ sym (append-nil first))
 Run-push old mid new k n (l ∷ ls) line replies first e h a =
     let count : n ≡ (k + 1) + length ls = omega arith in (

@@ -8,7 +8,8 @@ use Rattle.rewind_lines.specs.Front.{held_of}
 use Rattle.rewind_lines.specs.Known.{text_of-append}
 use Rattle.rewind_lines.specs.Lines.{Reading, has_newline, last_line_of, lines_of, reading_of, whole_lines_of}
 use Rattle.rewind_lines.specs.Texts.{text_of}
-use Rattle.rewind_answers.specs.Answers.{Phase, unopened, refused, Answers}
+use Rattle.nd_time.specs.Limits.{max_line}
+use Rattle.rewind_answers.specs.Answers.{Phase, unopened, refused, Answers, limit_in}
 use Rattle.rewind_run.specs.Script.{Run, Replies}
 use Rattle.rewind_answers.specs.Stages.{phase_of}
 use Rattle.rewind_run.specs.States.{AddsOne, Gathers, Stands, Stopped, WaitsFew}
@@ -27,9 +28,9 @@ phase_of-goes_on (Running script) e = cc
 
 -- the line is answered
 all-ran : (n : ℕ) (done sent : List ℕ) (run : declared.Run) (number : ℕ) (reading : Reading) (s : Stands n done sent run) (replies : List Data) (new : Phase)
-    → number ≡ run.lines.number → reading ≡ reading_of (last_line_of done) → Answers (phase_of run.stage) number reading replies new → Replies n (lines_of done) (s.replies ++ replies) new
+    → number ≡ run.lines.number → reading ≡ reading_of (limit_in (phase_of run.stage)) (last_line_of done) → Answers (phase_of run.stage) number reading replies new → Replies n (lines_of done) (s.replies ++ replies) new
 all-ran n done sent run number reading s replies new at is a =
-    let here : Answers (phase_of run.stage) number (reading_of (last_line_of done)) replies new = subst (λ (l : Reading). Answers (phase_of run.stage) number l replies new) is a in
+    let here : Answers (phase_of run.stage) number (reading_of (limit_in (phase_of run.stage)) (last_line_of done)) replies new = subst (λ (l : Reading). Answers (phase_of run.stage) number l replies new) is a in
     let count : number ≡ 1 + length (whole_lines_of done) = at ∙ (ap (λ h. h.number) s.held ∙ lines-count done) in
     rw (lines-split done) (Run-push (unopened n) (phase_of run.stage) new 1 number (whole_lines_of done) (last_line_of done) s.replies replies count s.ran here)
 
@@ -40,11 +41,11 @@ all-gathered n done sent run next number reading count new s a =
     text_of-append s.replies a.replies
     ∙ (ap (λ t. t ++ text_of a.replies) s.text ∙ (append_assoc sent run.outbox (text_of a.replies) ∙ ap (λ t. sent ++ t) (sym a.gathered)))
 
-pub stands-new : (n : ℕ) (run : declared.Run) → phase_of run.stage ≡ unopened n → run.lines ≡ held_of [] → run.outbox ≡ [] → run.replied ≡ 0 → Stands n [] [] run
+pub stands-new : (n : ℕ) (run : declared.Run) → phase_of run.stage ≡ unopened n → run.lines ≡ held_of max_line [] → run.outbox ≡ [] → run.replied ≡ 0 → Stands n [] [] run
 unfolding Run
 stands-new n run stage held none replied = record {
   replies = [];
-  held = held;
+  held = held ∙ ap (λ (p : Phase). held_of (limit_in p) []) (sym stage);
   ran = rw whole_lines-empty (refl, stage);
   text = sym none;
   replied = replied;
@@ -87,7 +88,7 @@ stopped-memory-here n done sent run next s waits =
 
 -- the graph's line was refused
 pub stopped-refused : (n : ℕ) (done sent : List ℕ) (run next : declared.Run) (number : ℕ) (reading : Reading) (count : ℕ) → Stands n done sent run → number ≡ run.lines.number
-    → reading ≡ reading_of (last_line_of done) → Gathers (phase_of run.stage) number reading run.outbox next.outbox count refused → Stopped n (lines_of done) sent next fault.Graph
+    → reading ≡ reading_of (limit_in (phase_of run.stage)) (last_line_of done) → Gathers (phase_of run.stage) number reading run.outbox next.outbox count refused → Stopped n (lines_of done) sent next fault.Graph
 stopped-refused n done sent run next number reading count s at is a = record {
   count = length (lines_of done);
   replies = s.replies ++ a.replies;
@@ -99,12 +100,12 @@ stopped-refused n done sent run next number reading count s at is a = record {
 
 -- the next line begins
 pub stands-next : (n : ℕ) (done sent : List ℕ) (run next : declared.Run) (number : ℕ) (reading : Reading) (count : ℕ) → Stands n done sent run → number ≡ run.lines.number
-    → reading ≡ reading_of (last_line_of done) → Gathers (phase_of run.stage) number reading run.outbox next.outbox count (phase_of next.stage)
-    → ((d : List ℕ) → run.lines ≡ held_of d → next.lines ≡ held_of (d ++ 10 ∷ [])) → next.replied ≡ run.replied + count
+    → reading ≡ reading_of (limit_in (phase_of run.stage)) (last_line_of done) → Gathers (phase_of run.stage) number reading run.outbox next.outbox count (phase_of next.stage)
+    → ((limit : ℕ) (d : List ℕ) → run.lines ≡ held_of limit d → next.lines ≡ held_of (limit_in (phase_of next.stage)) (d ++ 10 ∷ [])) → next.replied ≡ run.replied + count
     → Stands n (done ++ 10 ∷ []) sent next
 stands-next n done sent run next number reading count s at is a hold replied = record {
   replies = s.replies ++ a.replies;
-  held = hold done s.held;
+  held = hold _ done s.held;
   ran = rw (whole_lines-newline done) (all-ran n done sent run number reading s a.replies (phase_of next.stage) at is a.answers);
   text = all-gathered n done sent run next number reading count (phase_of next.stage) s a;
   replied =
@@ -115,11 +116,11 @@ stands-next n done sent run next number reading count s at is a hold replied = r
 
 -- more bytes of the same line
 pub stands-on : (n : ℕ) (done bytes sent : List ℕ) (run next : declared.Run) → has_newline bytes ≡ false → Stands n done sent run
-    → ((d : List ℕ) → run.lines ≡ held_of d → next.lines ≡ held_of (d ++ bytes)) → next.stage ≡ run.stage → next.outbox ≡ run.outbox → next.replied ≡ run.replied
+    → ((limit : ℕ) (d : List ℕ) → run.lines ≡ held_of limit d → next.lines ≡ held_of limit (d ++ bytes)) → next.stage ≡ run.stage → next.outbox ≡ run.outbox → next.replied ≡ run.replied
     → Stands n (done ++ bytes) sent next
 stands-on n done bytes sent run next none s hold stage waits replied = record {
   replies = s.replies;
-  held = hold done s.held;
+  held = hold _ done s.held ∙ ap (λ (st : Stage). held_of (limit_in (phase_of st)) (done ++ bytes)) (sym stage);
   ran = rw (whole_lines-on done bytes none, stage) s.ran;
   text = s.text ∙ ap (λ t. sent ++ t) (sym waits);
   replied = replied ∙ s.replied;

@@ -3,7 +3,7 @@ use Rattle.std.specs.Prelude.{◌≡◌, ◌≢◌, ℕ, ◌+◌, ◌<◌, ◌�
 use Rattle.serde_json.specs.Data.{Data}
 use Rattle.rewind_lines.specs.Lines.{reading_of, lines_of, whole_lines_of}
 use Rattle.rewind_lines.specs.Texts.{text_of}
-use Rattle.rewind_answers.specs.Answers.{Answers, Phase, refused, unopened}
+use Rattle.rewind_answers.specs.Answers.{Answers, Phase, limit_in, refused, unopened}
 use Rattle.rewind_options.specs.declared.fault.DebugFault.{DebugFault}
 use Rattle.rewind_options.specs.declared.fault.DebugFault.TheVariants as fault
 
@@ -11,7 +11,7 @@ use Rattle.rewind_options.specs.declared.fault.DebugFault.TheVariants as fault
 unfoldable pub Run : Phase → ℕ → List (List ℕ) → List Data → Phase → Type 0
 Run old number [] replies new = (replies ≡ []) × (new ≡ old)
 Run old number (line ∷ lines) replies new =
-    (first : List Data) × (mid : Phase) × (more : List Data) × Answers old number (reading_of line) first mid
+    (first : List Data) × (mid : Phase) × (more : List Data) × Answers old number (reading_of (limit_in old) line) first mid
     × Run mid (number + 1) lines more new × (replies ≡ first ++ more)
 
 -- a complete run from its first line, on this number of processors

@@ -4,7 +4,7 @@ use Rattle.serde_json.specs.Data.{Data}
 use Rattle.rewind_lines.specs.Front.{held_of}
 use Rattle.rewind_lines.specs.Lines.{Reading, whole_lines_of}
 use Rattle.rewind_lines.specs.Texts.{text_of}
-use Rattle.rewind_answers.specs.Answers.{Answers, Phase, refused}
+use Rattle.rewind_answers.specs.Answers.{Answers, Phase, limit_in, refused}
 use Rattle.rewind_run.specs.Script.{RefusedAt, RepliedTo, Replies, WroteFront}
 use Rattle.rewind_answers.specs.Stages.{phase_of}
 use Rattle.rewind_options.specs.declared.fault.DebugFault.{DebugFault}
@@ -33,7 +33,7 @@ pub record WaitsFew (waits : List ℕ) : Type 0 where
 -- `done` was read, and the replies to its complete lines are `sent`, followed by those that wait
 pub record Stands (processors : ℕ) (done sent : List ℕ) (run : Run) : Type 0 where
   pub replies : List Data
-  pub held : run.lines ≡ held_of done
+  pub held : run.lines ≡ held_of (limit_in (phase_of run.stage)) done
   pub ran : Replies processors (whole_lines_of done) replies (phase_of run.stage)
   pub text : text_of replies ≡ sent ++ run.outbox
   pub replied : run.replied ≡ length replies

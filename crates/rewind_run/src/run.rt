@@ -88,7 +88,8 @@ impl Run {
         if is_last {
             return Err(DebugFault::Graph);
         }
-        self.lines.begin_next();
+        let limit = self.stage.limit();
+        self.lines.begin_next(limit);
         self.replied += count;
         Ok(())
     }

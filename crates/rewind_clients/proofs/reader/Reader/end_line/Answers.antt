@@ -4,5 +4,5 @@ use Rattle.rewind_clients.proofs.reader.Reader.end_line.Goals as goal
 
 pub returns-clause-ok : goal.returns-clause-ok
 returns-clause-ok c = λ o done s.
-    stands-next o done c.args.self.now _ c.number-number.result _ s c.number-number.ensures (c.in_ok-reading.ensures.reading done s.held)
-    c.in_ok-read_line.ensures.reads (λ d h. c.begin_next.ensures.next d h) refl
+    stands-next o done c.args.self.now _ c.number-number.result _ s c.number-number.ensures (c.in_ok-reading.ensures.reading _ done s.held)
+    c.in_ok-read_line.ensures.reads (λ l d h. rw (← c.limit-limit.ensures) (c.begin_next.ensures.next l d h)) refl

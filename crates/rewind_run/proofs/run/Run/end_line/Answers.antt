@@ -15,12 +15,12 @@ returns-in_err-count-clause-err g c =
 
 pub returns-then-is_last-clause-err : goal.returns-then-is_last-clause-err
 returns-then-is_last-clause-err g c = λ n done sent s.
-    stopped-refused n done sent c.args.self.now _ _ _ _ s refl (c.in_ok-reading.ensures.reading done s.held) (rw c.if-is_last.true at c.in_ok-count.ensures.answers)
+    stopped-refused n done sent c.args.self.now _ _ _ _ s refl (c.in_ok-reading.ensures.reading _ done s.held) (rw c.if-is_last.true at c.in_ok-count.ensures.answers)
 
 pub returns-clause-ok : goal.returns-clause-ok
 returns-clause-ok g c = λ n done sent s.
-    stands-next n done sent c.args.self.now _ _ _ _ s refl (c.in_ok-reading.ensures.reading done s.held) (rw c.if-is_last.false at c.in_ok-count.ensures.answers)
-    (λ d h. c.begin_next.ensures.next d (c.in_ok-count.ensures.lines ∙ h)) (ap (λ k. k + c.in_ok-count.count) c.in_ok-count.ensures.replied)
+    stands-next n done sent c.args.self.now _ _ _ _ s refl (c.in_ok-reading.ensures.reading _ done s.held) (rw c.if-is_last.false at c.in_ok-count.ensures.answers)
+    (λ l d h. rw (← c.limit-limit.ensures) (c.begin_next.ensures.next l d (c.in_ok-count.ensures.lines ∙ h))) (ap (λ k. k + c.in_ok-count.count) c.in_ok-count.ensures.replied)
 
 pub returns-in_err-reading-clause-adds : goal.returns-in_err-reading-clause-adds
 returns-in_err-reading-clause-adds g c = adds-none _ _ refl
