@@ -25,7 +25,8 @@ pub struct Table<A: Allocator = Global> {
 
 /// Returns the table of a graph, or the least location from which a closed walk fails.
 pub fn table_of<A: Allocator + Copy>(alloc: A, graph: &Graph<A>) -> Result<Table<A>, PathFault>
-    ensures table { IfOk result (λ t. IsTable graph.now.order graph.now t.lists.items t.rows.items) }
+    ensures table { IfOk result
+        (λ t. IsTable graph.now.order graph.now t.lists.items t.rows.items) }
     ensures fault { IfErr result (λ e. IsFault graph.now e) }
 {
     let order = graph.order();
