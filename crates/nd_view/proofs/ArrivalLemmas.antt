@@ -1,12 +1,12 @@
 -- The minimal times into which walks turn those of a view's frontier are the minimal times that can arrive.
-use Rattle.std.proofs.Common.{◌≡◌, ◌≢◌, ◌<◌, ℕ, ℤ, pos, List, [], ◌∷◌, length, get_or, Some, refl, sym, ap, subst, ◌∙◌, arith}
+use Rattle.std.proofs.Common.{◌≡◌, ◌≢◌, ℕ, ℤ, pos, List, [], ◌∷◌, length, get_or, refl, sym, ap, subst, ◌∙◌, arith}
 use Rattle.std.specs.Prelude.{◌<ℤ◌, Contains, IsPermutation}
 use Rattle.std.proofs.lemmas.List.{get_or_default}
 use Rattle.std.proofs.lemmas.List.Sorted.{IsPermutation-sym, Contains-permutation}
-use Rattle.nd_time.specs.Time.{Time, IsAtOrBefore}
+use Rattle.nd_time.specs.Time.{Time}
+use Rattle.nd_time.specs.Order.{IsAtOrBeforeBy}
 use Rattle.nd_graph.specs.Graph.{Dataflow}
 use Rattle.nd_paths.specs.Order.{CouldResultIn}
-use Rattle.nd_summaries.specs.Walk.{HasDepth}
 use Rattle.nd_paths.specs.Arrival.{TurnsInto, HasAtOrBefore, WalksLeadOn}
 use Rattle.nd_paths.specs.declared.point.Pointstamp.{Pointstamp}
 use Rattle.nd_delta.specs.Delta.{DeltaValue, at, entries}
@@ -14,22 +14,11 @@ use Rattle.nd_delta.specs.Least.{place_of}
 use Rattle.nd_map.specs.Cases.{not_zero}
 use Rattle.nd_view.specs.View.{IsOnFrontier, IsPartWhere}
 use Rattle.nd_view.specs.Kept.{Kept, IsFor}
-use Rattle.nd_view.specs.Arrivals.{CanArrive, AreArrivals, AreExact, AreReached, AreMinimal, HaveOneDepth}
+use Rattle.nd_view.specs.Arrivals.{CanArrive, AreArrivals, AreExact, AreReached, AreMinimal}
 use Rattle.nd_view.proofs.Frontiers.{IsOrder, frontier_hinders}
 use Rattle.nd_view.specs.PartLaws.{index_some, part-entry}
 use Rattle.nd_view.specs.declared.extent.Extent.TheVariants.{AtOrBefore}
 use Rattle.nd_view.proofs.TimeOrder.{before_through, before_both}
-
-some_same : (a b : ℕ) → Some a ≡ Some b → a ≡ b
-some_same a b e = cc (e)
-
--- times to which walks to one location lead have the same depth
-pub one_depth : (g : Dataflow) → WalksLeadOn g → (es : List (Pointstamp × ℤ)) (x : ℕ) (times : List Time) → AreReached g es x times → HaveOneDepth times
-one_depth g on es x times reached s t (i, li, is_s) (j, lj, is_t) =
-    let of : (u : Time) (k : ℕ) → k < length times → get_or times k u ≡ u → HasDepth g x (length u.counters) = λ u k lt is.
-    let (e, among, turns) = reached.each k u lt in
-    (on e.0 x u (subst (TurnsInto g e.0 x) is turns)).fits_t.depth in
-    some_same (length s.counters) (length t.counters) (sym (of s i li is_s) ∙ of t j lj is_t)
 
 -- a time comes from an entry
 pub entry_of_time : (g : Dataflow) (es : List (Pointstamp × ℤ)) (x : ℕ) (times sorted : List Time) → AreReached g es x times → IsPermutation times sorted → sorted ≢ [] → es ≢ []
@@ -47,9 +36,9 @@ entry_on_frontier g m f part (e ∷ rest) is some =
     (x, part-entry (IsOnFrontier g m) m f part 0 e (omega (arith, ap length is)))
 
 module _ (g : Dataflow) (order : IsOrder g) (on : WalksLeadOn g) (v : Kept) (kept_for : IsFor g v) (f : DeltaValue) (part : IsPartWhere (IsOnFrontier g v.map) v.map f) (x : ℕ)
-    (times sorted : List Time) (reached : AreReached g (entries f) x times) (permuted : IsPermutation times sorted) (least : List Time) (minimal : AreMinimal sorted least) where
+    (times sorted : List Time) (reached : AreReached g (entries f) x times) (permuted : IsPermutation times sorted) (least : List Time) (minimal : AreMinimal g.order sorted least) where
   -- each time that a positive point could result in has one of the least times at or before it
-  found : (s : Pointstamp) (t : Time) → pos 0 <ℤ at v.map s → CouldResultIn g s (record { location = x; time = t }) → HasAtOrBefore least t
+  found : (s : Pointstamp) (t : Time) → pos 0 <ℤ at v.map s → CouldResultIn g s (record { location = x; time = t }) → HasAtOrBefore g.order least t
   found s t positive could =
       let close = frontier_hinders g order v kept_for AtOrBefore (record { location = x; time = t }) s (record { positive = positive; before = could }) in
       let y = close.point in
@@ -60,7 +49,7 @@ module _ (g : Dataflow) (order : IsOrder g) (on : WalksLeadOn g) (v : Kept) (kep
       let there : CouldResultIn g e.0 (record { location = x; time = t }) = subst (λ z. CouldResultIn g z (record { location = x; time = t })) (sym place.is) close.before in
       let (u, among, before) = reached.least e (place.index, place.in_range, get_or_default (entries f) place.index e (y, at f y) place.in_range) t there in
       let (w, chosen, first) = minimal.covers u (Contains-permutation times sorted u permuted among) in
-      (w, chosen, before_through w u t first before)
+      (w, chosen, before_through g.order w u t first before)
 
   -- each of the least times can arrive
   arrives : (t : Time) → Contains least t → CanArrive g v.map x t
@@ -71,7 +60,7 @@ module _ (g : Dataflow) (order : IsOrder g) (on : WalksLeadOn g) (v : Kept) (kep
       record { source = e.0; positive = (part.only e.0 some).positive; turns = subst (TurnsInto g e.0 x) at' turns }
 
   -- each time that can arrive there has one of the least times at or before it
-  covers : (t : Time) → CanArrive g v.map x t → HasAtOrBefore least t
+  covers : (t : Time) → CanArrive g v.map x t → HasAtOrBefore g.order least t
   covers t can = found can.source t can.positive (on can.source x t can.turns)
 
   pub are_arrivals : AreArrivals g v.map x least
@@ -82,9 +71,9 @@ module _ (g : Dataflow) (order : IsOrder g) (on : WalksLeadOn g) (v : Kept) (kep
           let t : Time = get_or least k d in
           let (w, (j, lj, is), first) = covers u can in
           let here : get_or least j d ≡ w = get_or_default least j d w lj ∙ is in
-          let same : j ≡ k = minimal.apart j k d lj lt (subst (λ s. IsAtOrBefore s t) (sym here) (before_through w u t first before)) in
+          let same : j ≡ k = minimal.apart j k d lj lt (subst (λ s. IsAtOrBeforeBy g.order s t) (sym here) (before_through g.order w u t first before)) in
           let one : w ≡ t = sym here ∙ ap (λ i. get_or least i d) same in
-          before_both u t before (subst (λ s. IsAtOrBefore s u) one first);
+          before_both g.order u t before (subst (λ s. IsAtOrBeforeBy g.order s u) one first);
     };
     all = λ t one.
         let (w, among, before) = covers t one.arrives in

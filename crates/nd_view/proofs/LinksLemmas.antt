@@ -26,7 +26,7 @@ never_after g s t epochal outside some before =
 -- a point that is after something is before another one at its location with a later epoch, if neither has counters
 pub beside_it : (g : Dataflow) (x s t : Pointstamp) → CouldResultIn g x s → s.location ≡ t.location → s.time.counters ≡ [] → t.time.counters ≡ [] → s.time.epoch ≤ t.time.epoch → s ≢ t → IsStrictlyBefore g s t
 beside_it g x s t could place outside outside_t rise other = (
-  beside g s s t place (outside ∙ sym outside_t) rise (record { fits_s = could.fits_t; fits_t = could.fits_t; walk = []; leads = refl; before = before_itself s.time }),
+  beside g s s t place (outside ∙ sym outside_t) rise (record { fits_s = could.fits_t; fits_t = could.fits_t; walk = []; leads = refl; before = before_itself g.order s.time }),
   other,
 )
 

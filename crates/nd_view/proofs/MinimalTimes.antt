@@ -1,19 +1,19 @@
 -- The minimal ones among times that are listed by epoch and then by counters, found time by time.
-use Rattle.std.proofs.Common.{Ordering, Less, Equal, Greater, false, true≢false, ◌≡◌, ◌⊎◌, ◌+◌, ◌-◌, ◌≤◌, ◌<◌, ℕ, List, [], ◌∷◌, ◌++◌, length, get_or, refl, sym, ap, subst, ◌∙◌, inl, inr, arith}
-use Rattle.std.specs.Prelude.{Contains, IsSorted, Some, None, slice_get}
+use Rattle.std.proofs.Common.{Ordering, Less, Equal, Greater, false, true≢false, ◌≡◌, ◌⊎◌, ◌+◌, ◌≤◌, ◌<◌, ℕ, List, [], ◌∷◌, ◌++◌, length, get_or, refl, sym, ap, subst, ◌∙◌, inl, inr, arith}
+use Rattle.std.specs.Prelude.{Contains, IsSorted}
 use Rattle.std.specs.Ordering.{is_lt, is_gt, ordering_reverse}
 use Rattle.std.specs.Cmp.{IsStrictWeakOrder}
 use Rattle.std.proofs.lemmas.Bool.{cases_lt}
-use Rattle.std.proofs.lemmas.Option.{slice_get-get_or, slice_get_within, get_or_from_slice_get}
-use Rattle.std.proofs.lemmas.Cmp.{nat_list_cmp_total, upto, tied_itself}
 use Rattle.std.proofs.lemmas.List.{get_or_default, get_or_append_left, get_or_push, length_push}
 use Rattle.std.proofs.lemmas.List.Elements.{Contains-append_left, Contains-append_right}
 use Rattle.std.proofs.lemmas.List.Sorted.{sorted_far, ranks_by}
-use Rattle.nd_time.specs.Time.{Time, IsAtOrBefore}
+use Rattle.nd_time.specs.Time.{Time}
+use Rattle.nd_time.specs.Order.{IsAtOrBeforeBy}
+use Rattle.nd_time.specs.declared.order.TimeOrder.{TimeOrder}
 use Rattle.nd_time.specs.Listing.{time_cmp, time_total, time_exact}
 use Rattle.nd_paths.specs.Arrival.{HasAtOrBefore}
-use Rattle.nd_view.specs.Arrivals.{AreApart, AreRising, AreMinimal, HaveOneDepth}
-use Rattle.nd_view.proofs.TimeOrder.{IsUpTo, up_to, up_to_or, before_from, before_itself, listed_before, listed_epoch}
+use Rattle.nd_view.specs.Arrivals.{AreApart, AreRising, AreMinimal}
+use Rattle.nd_view.proofs.TimeOrder.{before_itself, listed_before}
 
 -- ---- listed in order
 
@@ -39,33 +39,15 @@ reversed_less o Less e l h = cc (e, l)
 reversed_less o Equal e l h = cc (e, l)
 reversed_less o Greater e l h = true≢false h
 
--- ---- the last one of a list
-
-pub last_some : (xs : List Time) (x : Time) → slice_get xs (length xs - 1) ≡ Some x → (j : ℕ) (d : Time) → j + 1 ≡ length xs → get_or xs j d ≡ x
-last_some xs x found j d last = let same : j ≡ length xs - 1 = omega (arith, last) in get_or_from_slice_get xs j x d (ap (slice_get xs) same ∙ found)
-
-pub within_some : (xs : List Time) (x : Time) → slice_get xs (length xs - 1) ≡ Some x → 0 < length xs
-within_some xs x found = let l = slice_get_within xs (length xs - 1) x found in omega arith
-
-pub last_none : (xs : List Time) → slice_get xs (length xs - 1) ≡ None → (j : ℕ) → j + 1 ≡ length xs → ⊥
-last_none xs none j last =
-    let d : Time = record { epoch = 0; counters = [] } in
-    let some : slice_get xs (length xs - 1) ≡ Some (get_or xs (length xs - 1) d) = slice_get-get_or xs (length xs - 1) d (omega (arith, last)) in
-    cc (none, some)
-
-module _ (ts : List Time) where
+module _ (order : TimeOrder) (ts : List Time) where
   -- the result for the first times
   pub record IsKeptUpTo (i : ℕ) (kept : List Time) : Type 0 where
     pub from : (k : ℕ) (d : Time) → k < length kept → (m : ℕ) × (m < i) × (m < length ts) × (get_or kept k d ≡ get_or ts m d)
-    pub covers : (m : ℕ) (d : Time) → m < i → m < length ts → HasAtOrBefore kept (get_or ts m d)
-    pub apart : AreApart kept
+    pub covers : (m : ℕ) (d : Time) → m < i → m < length ts → HasAtOrBefore order kept (get_or ts m d)
+    pub apart : AreApart order kept
     pub rising : AreRising kept
-    pub least : (j k : ℕ) (d : Time) → j + 1 ≡ length kept → k < length kept → IsUpTo (get_or kept j d).counters (get_or kept k d).counters
 
-  module _ (alike : HaveOneDepth ts) (sorted : IsSorted time_cmp ts) (i : ℕ) (t : Time) (lt : i < length ts) (is : t ≡ get_or ts i t) (kept : List Time) (h : IsKeptUpTo i kept) where
-    here : Contains ts t
-    here = (i, lt, sym is)
-
+  module _ (sorted : IsSorted time_cmp ts) (i : ℕ) (t : Time) (lt : i < length ts) (is : t ≡ get_or ts i t) (kept : List Time) (h : IsKeptUpTo i kept) where
     -- each time of the result is listed no later than the next time, and has its depth
     earlier : (k : ℕ) (d : Time) → k < length kept → is_gt (time_cmp (get_or kept k d) t) ≡ false
     earlier k d less =
@@ -74,31 +56,25 @@ module _ (ts : List Time) where
         let next : get_or ts i d ≡ t = get_or_default ts i d t lt ∙ sym is in
         subst (λ s. is_gt (time_cmp s t) ≡ false) (sym same) (subst (λ u. is_gt (time_cmp (get_or ts m d) u) ≡ false) next (back_gt _ _ (time_total.antisymm (get_or ts i d) (get_or ts m d)) far))
 
-    deep : (k : ℕ) (d : Time) → k < length kept → length (get_or kept k d).counters ≡ length t.counters
-    deep k d less =
-        let (m, early, within, same) = h.from k d less in
-        alike (get_or kept k d) t (m, within, get_or_default ts m (get_or kept k d) d within ∙ sym same) here
-
     later : (k : ℕ) (d : Time) → k < length kept → (m : ℕ) × (m < i + 1) × (m < length ts) × (get_or kept k d ≡ get_or ts m d)
     later k d less = let (m, early, within, same) = h.from k d less in (m, omega (arith, early), within, same)
 
-    -- if the last time of the result is at or before the next time, the result stays
-    pub kept_skip : (j : ℕ) → j < length kept → IsAtOrBefore (get_or kept j t) t → IsKeptUpTo (i + 1) kept
-    kept_skip j less before = record {
+    -- if a time of the result is at or before the next time, the result stays
+    pub kept_skip : HasAtOrBefore order kept t → IsKeptUpTo (i + 1) kept
+    kept_skip has = record {
       from = later;
       covers = λ m d early within. elim (cases_lt m i) [
         | inl l ↦ h.covers m d l within
         | inr l ↦
             let same : m ≡ i = omega (arith, early, l) in
-            subst (HasAtOrBefore kept) (is ∙ get_or_default ts i t d lt ∙ ap (λ k. get_or ts k d) (sym same)) (get_or kept j t, (j, less, get_or_default kept j (get_or kept j t) t less), before)
+            subst (HasAtOrBefore order kept) (is ∙ get_or_default ts i t d lt ∙ ap (λ k. get_or ts k d) (sym same)) has
       ];
       apart = h.apart;
       rising = h.rising;
-      least = h.least;
     }
 
-    -- if it is not, the next time is added
-    module _ (not : (j : ℕ) (d : Time) → j + 1 ≡ length kept → IsAtOrBefore (get_or kept j d) t → ⊥) (more : List Time) (more_is : more ≡ kept ++ t ∷ []) where
+    -- if none is, the next time is added
+    module _ (not : HasAtOrBefore order kept t → ⊥) (more : List Time) (more_is : more ≡ kept ++ t ∷ []) where
       long : length more ≡ length kept + 1
       long = ap length more_is ∙ length_push kept t
 
@@ -111,39 +87,23 @@ module _ (ts : List Time) where
       split : (k : ℕ) → k < length more → (k < length kept) ⊎ (k ≡ length kept)
       split k less = elim (cases_lt k (length kept)) [ inl l ↦ inl l | inr l ↦ inr (omega (arith, less, l, long)) ]
 
-      last_above : (j k : ℕ) (d : Time) → j + 1 ≡ length kept → k < length kept → IsUpTo t.counters (get_or kept k d).counters
-      last_above j k d last less =
-          let l : j < length kept = omega (arith, last) in
-          let above : IsUpTo (get_or kept j d).counters t.counters → ⊥ = λ up. not j d last (before_from (get_or kept j d) t (deep j d l) (listed_epoch (get_or kept j d) t (earlier j d l)) up) in
-          upto nat_list_cmp_total t.counters (get_or kept j d).counters (get_or kept k d).counters (up_to_or (get_or kept j d).counters t.counters above) (h.least j k d last less)
-
-      -- the last time of a result that is not empty
-      last_of : (k : ℕ) → k < length kept → (j : ℕ) × (j + 1 ≡ length kept)
-      last_of k less = (length kept - 1, omega (arith, less))
-
-      above : (k : ℕ) (d : Time) → k < length kept → IsUpTo t.counters (get_or kept k d).counters
-      above k d less = let (j, last) = last_of k less in last_above j k d last less
-
-      never : (k : ℕ) (d : Time) → k < length kept → IsAtOrBefore (get_or kept k d) t → ⊥
-      never k d less before =
-          let (j, last) = last_of k less in
-          let l : j < length kept = omega (arith, last) in
-          not j d last (before_from (get_or kept j d) t (deep j d l) (listed_epoch (get_or kept j d) t (earlier j d l)) (upto nat_list_cmp_total (get_or kept j d).counters (get_or kept k d).counters t.counters (h.least j k d last less) (up_to (get_or kept k d) t before)))
+      never : (k : ℕ) (d : Time) → k < length kept → IsAtOrBeforeBy order (get_or kept k d) t → ⊥
+      never k d less before = not (get_or kept k d, (k, less, get_or_default kept k (get_or kept k d) d less), before)
 
       rises : (k : ℕ) (d : Time) → k < length kept → time_cmp (get_or kept k d) t ≡ Less
-      rises k d less = less_or_tied (time_cmp (get_or kept k d) t) (earlier k d less) (λ e. never k d less (subst (IsAtOrBefore (get_or kept k d)) (time_exact (get_or kept k d) t e) (before_itself (get_or kept k d))))
+      rises k d less = less_or_tied (time_cmp (get_or kept k d) t) (earlier k d less) (λ e. never k d less (subst (IsAtOrBeforeBy order (get_or kept k d)) (time_exact (get_or kept k d) t e) (before_itself order (get_or kept k d))))
 
-      back : (k : ℕ) (d : Time) → k < length kept → IsAtOrBefore t (get_or kept k d) → ⊥
-      back k d less before = reversed_less (time_cmp (get_or kept k d) t) (time_cmp t (get_or kept k d)) (time_total.antisymm (get_or kept k d) t) (rises k d less) (listed_before t (get_or kept k d) before)
+      back : (k : ℕ) (d : Time) → k < length kept → IsAtOrBeforeBy order t (get_or kept k d) → ⊥
+      back k d less before = reversed_less (time_cmp (get_or kept k d) t) (time_cmp t (get_or kept k d)) (time_total.antisymm (get_or kept k d) t) (rises k d less) (listed_before order t (get_or kept k d) before)
 
-      apart_more : AreApart more
+      apart_more : AreApart order more
       apart_more j k d lj lk before = elim (split j lj) [
         | inl oj ↦ elim (split k lk) [
-          | inl ok ↦ h.apart j k d oj ok (subst (λ s. IsAtOrBefore s (get_or kept k d)) (old j d oj) (subst (IsAtOrBefore (get_or more j d)) (old k d ok) before))
-          | inr nk ↦ absurd (never j d oj (subst (λ s. IsAtOrBefore s t) (old j d oj) (subst (IsAtOrBefore (get_or more j d)) (new k d nk) before)))
+          | inl ok ↦ h.apart j k d oj ok (subst (λ s. IsAtOrBeforeBy order s (get_or kept k d)) (old j d oj) (subst (IsAtOrBeforeBy order (get_or more j d)) (old k d ok) before))
+          | inr nk ↦ absurd (never j d oj (subst (λ s. IsAtOrBeforeBy order s t) (old j d oj) (subst (IsAtOrBeforeBy order (get_or more j d)) (new k d nk) before)))
         ]
         | inr nj ↦ elim (split k lk) [
-          | inl ok ↦ absurd (back k d ok (subst (λ s. IsAtOrBefore s (get_or kept k d)) (new j d nj) (subst (IsAtOrBefore (get_or more j d)) (old k d ok) before)))
+          | inl ok ↦ absurd (back k d ok (subst (λ s. IsAtOrBeforeBy order s (get_or kept k d)) (new j d nj) (subst (IsAtOrBeforeBy order (get_or more j d)) (old k d ok) before)))
           | inr nk ↦ nj ∙ sym nk
         ]
       ]
@@ -164,24 +124,18 @@ module _ (ts : List Time) where
           | inl l ↦ (let (u, among, before) = h.covers m d l within in (u, subst (λ l'. Contains l' u) (sym more_is) (Contains-append_left kept (t ∷ []) u among), before))
           | inr l ↦
               let same : m ≡ i = omega (arith, early, l) in
-              subst (HasAtOrBefore more) (is ∙ get_or_default ts i t d lt ∙ ap (λ k. get_or ts k d) (sym same)) (t, subst (λ l'. Contains l' t) (sym more_is) (Contains-append_right kept (t ∷ []) t (0, omega arith, refl)), before_itself t)
+              subst (HasAtOrBefore order more) (is ∙ get_or_default ts i t d lt ∙ ap (λ k. get_or ts k d) (sym same)) (t, subst (λ l'. Contains l' t) (sym more_is) (Contains-append_right kept (t ∷ []) t (0, omega arith, refl)), before_itself order t)
         ];
         apart = apart_more;
         rising = rising_more;
-        least = λ j k d last less.
-            let n : j ≡ length kept = omega (arith, last, long) in
-            subst (λ s. IsUpTo s.counters (get_or more k d).counters) (sym (new j d n)) (elim (split k less) [
-              | inl o ↦ subst (λ s. IsUpTo t.counters s.counters) (sym (old k d o)) (above k d o)
-              | inr m ↦ subst (λ s. IsUpTo t.counters s.counters) (sym (new k d m)) (ap is_gt (tied_itself nat_list_cmp_total t.counters))
-            ]);
       }
 
-  pub kept_all : (i : ℕ) (kept : List Time) → length ts ≤ i → IsKeptUpTo i kept → AreMinimal ts kept
+  pub kept_all : (i : ℕ) (kept : List Time) → length ts ≤ i → IsKeptUpTo i kept → AreMinimal order ts kept
   kept_all i kept past h = record {
     among = λ k d less. let (m, early, within, same) = h.from k d less in (m, within, get_or_default ts m (get_or kept k d) d within ∙ sym same);
     covers = λ t among.
         let (m, within, same) = among in
-        subst (HasAtOrBefore kept) same (h.covers m t (omega (arith, within, past)) within);
+        subst (HasAtOrBefore order kept) same (h.covers m t (omega (arith, within, past)) within);
     apart = h.apart;
     rising = h.rising;
   }

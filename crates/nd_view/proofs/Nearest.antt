@@ -3,7 +3,7 @@ use Rattle.std.proofs.Common.{◌≡◌, ◌≢◌, ◌≤◌, ◌+◌, ℕ, pos
 use Rattle.std.specs.Prelude.{Contains}
 use Rattle.std.specs.FinMap.{find}
 use Rattle.nd_graph.specs.Graph.{Dataflow}
-use Rattle.nd_time.specs.Time.{IsLexicallyAtMost}
+use Rattle.nd_time.specs.Order.{AreAtMost}
 use Rattle.nd_map.specs.Entries.{find-index}
 use Rattle.nd_map.specs.Listed.{IsListed}
 use Rattle.nd_paths.specs.Order.{CouldResultIn, IsStrictlyBefore}
@@ -31,7 +31,7 @@ beside g x s t place counters epoch h = record {
   fits_t = record { depth = subst (λ cs. HasDepth g t.location (length cs)) counters (subst (λ l. HasDepth g l (length s.time.counters)) place h.fits_t.depth) };
   walk = h.walk;
   leads = subst (IsWalk g x.location h.walk) place h.leads;
-  before = record { depth = h.before.depth ∙ ap length counters; epoch = epoch; counters = subst (IsLexicallyAtMost (effect h.walk x.time.counters)) counters h.before.counters };
+  before = record { depth = h.before.depth ∙ ap length counters; epoch = epoch; counters = subst (AreAtMost g.order (effect h.walk x.time.counters)) counters h.before.counters };
 }
 
 module _ (g : Dataflow) (m : DeltaValue) (es : List (Pointstamp × ℕ)) (t : Pointstamp) (e : Pointstamp × ℕ) (listed : IsListed point_cmp es) (kept : AreKept g m es) (among : Contains es e) (near : IsNear e.0 t) where

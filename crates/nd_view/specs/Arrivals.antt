@@ -56,11 +56,6 @@ pub record AreReached (g : Dataflow) (es : List (Pointstamp × ℤ)) (x : ℕ) (
   pub each : All (λ t. (e : Pointstamp × ℤ) × Contains es e × TurnsInto g e.0 x t) times
   pub least : (e : Pointstamp × ℤ) → Contains es e → CoverAll g e.0 x times
 
--- these times have the same number of counters
-abbrev pub HaveOneDepth : List Time → Type 0
-HaveOneDepth times =
-    (s t : Time) → Contains times s → Contains times t → length s.counters ≡ length t.counters
-
 -- the minimal ones of these times by the order, each once, in the order of listing
 pub record AreMinimal (order : TimeOrder) (times minimal : List Time) : Type 0 where
   pub among : All (Contains times) minimal

@@ -5,7 +5,7 @@ ghost use Rattle.nd_paths.specs.Arrival.{HasAtOrBefore};
 ghost use Rattle.nd_paths.specs.declared.point.Pointstamp.{Pointstamp};
 ghost use Rattle.nd_view.specs.View.{IsOnFrontier};
 ghost use Rattle.nd_view.specs.Kept.{IsFor};
-ghost use Rattle.nd_view.specs.Arrivals.{AreArrivals, AreExact, AreApart, AreReached, AreMinimal, HaveOneDepth};
+ghost use Rattle.nd_view.specs.Arrivals.{AreArrivals, AreExact, AreApart, AreReached, AreMinimal};
 
 use crate::View;
 use nd_paths::{ArrivalTime, Paths, Pointstamp, arrival_times_are_listed};
@@ -13,9 +13,9 @@ use nd_time::TimeOrder;
 use std::alloc::{AllocError, Allocator};
 
 // Returns times into which walks to the location turn those of the entries, the least ones among them.
-fn reached_from<A: Allocator + Copy, B: Allocator>(
+fn reached_from<A: Allocator + Copy>(
     alloc: A,
-    paths: &Paths<B>,
+    paths: &Paths<A>,
     entries: &[(Pointstamp, i64)],
     location: usize,
 ) -> Result<Vec<ArrivalTime, A>, AllocError>
@@ -37,15 +37,14 @@ fn has_at_or_before(times: &[ArrivalTime], time: &ArrivalTime, order: TimeOrder)
     times.iter().any(|one| one.at_or_before_by(time, order))
 }
 
-// Returns the minimal times of a list in order of epoch, then counters. A time at or before another is listed
-// before it, in both orders.
+// Returns the minimal times of a list in order of epoch, then counters. In both orders a time at or before another
+// is listed before it. By product, all that were kept may have to be asked: the last one alone does not decide.
 fn minimal<A: Allocator>(
     alloc: A,
     times: &[ArrivalTime],
     order: TimeOrder,
 ) -> Result<Vec<ArrivalTime, A>, AllocError>
-    requires depth { HaveOneDepth times.now }
-    requires sorted { IsSorted time_cmp times.now }
+    requires { IsSorted time_cmp times.now }
     ensures value { IfOk result (λ v. AreMinimal order times.now v.items) }
     ensures some { OnErr result (times.now ≢ []) }
 {
@@ -63,12 +62,12 @@ impl<A: Allocator + Copy> View<A> {
     /// times into which walks to it turn those of the positive pointstamps. The list is empty if there is no
     /// such location.
     ///
-    /// A time is passed at the location exactly if none of the returned times is at or before it. None of
-    /// them is at or before another. It takes no memory if no pointstamp is positive.
-    pub fn arrivals<B: Allocator>(
+    /// A time is passed at the location exactly if none of the returned times is at or before it, by the graph's
+    /// timestamp order. None of them is at or before another. It takes no memory if no pointstamp is positive.
+    pub fn arrivals(
         &self,
         alloc: A,
-        paths: &Paths<B>,
+        paths: &Paths<A>,
         location: usize,
     ) -> Result<Vec<ArrivalTime, A>, AllocError>
         requires { IsFor paths.now self.now }

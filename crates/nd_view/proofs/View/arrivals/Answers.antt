@@ -1,21 +1,11 @@
-use Rattle.std.proofs.Common.{◌≢◌, List, [], Result, Ok, Err, OnErr, refl, sym, subst}
-use Rattle.std.proofs.lemmas.List.Sorted.{IsPermutation-sym, Contains-permutation}
+use Rattle.std.proofs.Common.{◌≢◌, [], Result, Ok, Err, OnErr, refl, ap, ◌∙◌, subst}
 use Rattle.std.proofs.lemmas.Result.{IfOk-weaker, on_err_weaker}
-use Rattle.nd_time.specs.Time.{Time}
-use Rattle.nd_view.specs.Arrivals.{AreReached, AreMinimal, HaveOneDepth}
+use Rattle.nd_view.specs.Arrivals.{AreReached, AreMinimal}
 use Rattle.nd_delta.specs.Delta.{entries}
-use Rattle.nd_view.proofs.ArrivalLemmas.{one_depth, are_arrivals, are_exact, entry_of_time, entry_on_frontier}
+use Rattle.nd_view.proofs.ArrivalLemmas.{are_arrivals, are_exact, entry_of_time, entry_on_frontier}
 use Rattle.nd_view.proofs.Frontiers.{IsOrder}
 use Rattle.nd_view.proofs.View.arrivals.Given.{Over}
 use Rattle.nd_view.proofs.View.arrivals.Goals as goal
-
-pub minimal-requires-clause-depth : goal.minimal-requires-clause-depth
-minimal-requires-clause-depth g c =
-    let times : List Time = c.in_ok-times.times.items in
-    let sorted : List Time = c.sort_unstable.new.self.items in
-    let alike = one_depth c.args.paths.now c.walks_lead_on.ensures c.entries.result.now c.args.location times c.in_ok-times.ensures.value in
-    let back = IsPermutation-sym times sorted c.sort_unstable.ensures.permutation in
-    subst HaveOneDepth (sym c.deref.ensures.value) (λ s t i j. alike s t (Contains-permutation sorted times s back i) (Contains-permutation sorted times t back j))
 
 of_err : {X E Q : Type 0} (r : Result X E) → Q → OnErr r Q
 of_err (Ok x) q = tt
@@ -32,13 +22,13 @@ pub returns-clause-value : goal.returns-clause-value
 returns-clause-value g c =
     IfOk-weaker c.minimal.result _ _ (λ w least.
     are_arrivals c.args.paths.now (order g c) c.walks_lead_on.ensures c.args.self.now c.requires c.in_ok-frontier.frontier c.in_ok-frontier.ensures.value c.args.location c.in_ok-times.times.items c.sort_unstable.new.self.items
-    (reached g c) c.sort_unstable.ensures.permutation w.items (subst (λ l. AreMinimal l w.items) c.deref.ensures.value least)) c.minimal.ensures.value
+    (reached g c) c.sort_unstable.ensures.permutation w.items (subst (λ o. AreMinimal o c.sort_unstable.new.self.items w.items) (c.order.ensures ∙ ap (λ d. d.order) c.graph.ensures.value) (subst (λ l. AreMinimal c.order.result l w.items) c.deref.ensures.value least))) c.minimal.ensures.value
 
 pub returns-clause-exact : goal.returns-clause-exact
 returns-clause-exact g c =
     IfOk-weaker c.minimal.result _ _ (λ w least.
     are_exact c.args.paths.now (order g c) c.walks_lead_on.ensures c.args.self.now c.requires c.in_ok-frontier.frontier c.in_ok-frontier.ensures.value c.args.location c.in_ok-times.times.items c.sort_unstable.new.self.items
-    (reached g c) c.sort_unstable.ensures.permutation w.items (subst (λ l. AreMinimal l w.items) c.deref.ensures.value least)) c.minimal.ensures.value
+    (reached g c) c.sort_unstable.ensures.permutation w.items (subst (λ o. AreMinimal o c.sort_unstable.new.self.items w.items) (c.order.ensures ∙ ap (λ d. d.order) c.graph.ensures.value) (subst (λ l. AreMinimal c.order.result l w.items) c.deref.ensures.value least))) c.minimal.ensures.value
 
 pub returns-in_err-times-clause-some : goal.returns-in_err-times-clause-some
 returns-in_err-times-clause-some g c =
