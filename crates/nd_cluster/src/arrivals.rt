@@ -33,7 +33,7 @@ impl<A: Allocator + Copy> Cluster<A> {
             AreArrivals self.now.graph (view self.now q) location v.items) }
         ensures exact { IfOk result (λ v.
             AreExact self.now.graph (view self.now q) location v.items) }
-        ensures apart { IfOk result (λ v. AreApart v.items) }
+        ensures apart { IfOk result (λ v. AreApart self.now.graph.order v.items) }
         ensures some { OnErr result
             ((x : Point) × IsOnFrontier self.now.graph (view self.now q) x) }
     {

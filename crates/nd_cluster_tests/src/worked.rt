@@ -29,7 +29,7 @@ fn are_summaries(paths: &Paths, from: &str, to: &str, wanted: &[Summary]) -> Opt
         return None;
     }
     let found = paths.summaries(from, to);
-    Some(found.as_slice() == wanted)
+    Some(found == wanted)
 }
 
 /// Returns whether the summaries of *loop* and of *two-ways* are as the examples say: of a path into the loop, of one

@@ -23,7 +23,7 @@ pub record ListsTimes (s : ClusterState) (q l : ℕ) (reply : Data) : Type 0 whe
   pub times_there : List Time
   pub arrivals : AreArrivals s.graph (view s q) l times_there
   pub exact : AreExact s.graph (view s q) l times_there
-  pub apart : AreApart times_there
+  pub apart : AreApart s.graph.order times_there
   pub told : reply ≡ times (times_data times_there)
 
 abbrev pub FrontierAtReply : ClusterState → ℕ → ℕ → Data → Type 0
