@@ -34,8 +34,8 @@ pub fn short_walks_suffice<A: Allocator>(graph: &Graph<A>)
     let _ = graph.all_arcs();
 }
 
-/// States that times at the locations of a graph are ordered by which could result in which: each in itself, in all that
-/// one could result in which it could, and, if the graph is accepted, no two in each other. The function has no code.
+/// States that *could result in* orders the times at the locations of a graph: it is reflexive and transitive and, if the
+/// graph is accepted, antisymmetric. The function has no code; callers use its clauses.
 pub fn times_are_ordered()
     ensures reflexive { (order : TimeOrder) (g : Dataflow) (l : ℕ) (s : Time)
         → HasDepth g l (length s.counters) → LeadsBefore order g l s l s }
