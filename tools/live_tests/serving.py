@@ -320,6 +320,35 @@ class Killed(unittest.TestCase):
             self.assertIn("words", live.asked("fewest", {**ASK, "limit": 5}))
 
 
+class Cancelled(unittest.TestCase):
+    def test_another_tab(self):
+        """A cancel is not lost if another tab asks something before what is cancelled looks for it."""
+        graph, fed = map(json.loads, around())
+        live = Live(Session(graph), "tabs")
+        self.addCleanup(live.close)
+        live.execute(lines_for([fed, {"do": "run", "limit": 2}]))
+        lines = [{"do": "run", "limit": 3000}, {"do": "jump", "to": 1}, {"do": "run", "limit": 1}]
+        for it in lines:
+            live.answer("command", {"line": json.dumps(it), "revision": live.revision})
+
+        def ask(path):
+            with contextlib.suppress(KeyError):
+                live.answer(path, {})
+
+        def between(text):
+            """Between two pieces: the cancel of one tab, and a question of another, which is a faulty one."""
+            live.journal.report = lambda text: None
+            for path in ("cancel", "state"):
+                tab = threading.Thread(target=ask, args=[path])
+                tab.start()
+                tab.join()
+
+        live.journal.report = between
+        for wanted in ("stopped at 3 of 3003 steps; the same again goes on", "brought back: 3003 steps"):
+            told = live.answer("bring-back", {"revision": live.revision})
+            self.assertTrue(told["words"][0].startswith(wanted), told)
+
+
 class Starting(unittest.TestCase):
     def test_progress(self):
         """A long start says how far it is."""

@@ -67,7 +67,9 @@ class Second:
     def with_program(self, work, entries, at, hi=0):
         """What some work returns at a position among steps, with those up to another one kept, too."""
         with self.lock:
-            self.is_stopped = not self.journal.may_go_on()
+            self.is_stopped = False
+            if not self.journal.may_go_on():  # asked after that, so that no stop is lost between the two
+                self.is_stopped = True
             try:
                 self.bring(entries, max(at, hi))
                 self.session.ask({"do": "jump", "to": at})
