@@ -211,14 +211,14 @@ class Pictures:
             time = times[0] if times else [0] * (self.depths[place] + 1)
         question = {"q": q, "at": place, "time": time, "before": bool(asked.get("before"))}
         told = self.whys([question], [arriving])[0]
-        return {**told, "rest": self.rest(question)} if told.get("passed") is False else told
+        return {**told, "rest": self.rest(question)[0]} if told.get("passed") is False else told
 
     def rest(self, question):
-        """What is left at rest, if few steps are left."""
+        """What is left at rest, if few steps are left, and how many steps the program has run for that."""
         reply = self.session.ask({"do": "why", **question, "rest": FEW})
-        if reply["stop"] == "limit" and not reply["passed"]:
-            return f'more than {FEW} steps are left: "How can this finish?" goes through them'
-        return plain(rest_words(reply, self.holds))
+        is_long = reply["stop"] == "limit" and not reply["passed"]
+        said = f"more than {FEW} steps are left" if is_long else rest_words(reply, self.holds)
+        return plain(said), reply["ran"]
 
     def whys(self, questions, arriving):
         """The answers why processors do not consider points finished, each with the reasons in words and

@@ -22,9 +22,13 @@ from rewind_tools.telling.table import Points
 # How many steps of runs a page shows at most, those that end a run aside; how long a line or a reply is;
 # how many points of the table it shows; and for how many states it asks what the last step changed.
 MOST_STEPS, LONGEST, ROWS, MOST_EFFECTS = 10_000, 2000, 400, 1000
-# How many queries for reasons a page asks about all points, and how many more about fewer of them: those
-# that the script's lines name, and those at which a vertex waits for its notification.
-MOST, MOST_OF_FEWER = 20_000, 20_000
+# How many queries for reasons a page asks about all points; how many more about fewer of them, which are those
+# that the script's lines name, and those at which a vertex waits for its notification; how many steps the
+# program runs for what is left at rest; and what of each there is at the end, where some pages open.
+MOST = {"all": 20_000, "fewer": 20_000, "steps": 500_000}
+AT_END = {"all": 1000, "fewer": 4000, "steps": 20_000}
+# As how many steps one answer about what is left at rest counts at least.
+LEAST_STEPS = 50
 # The words of lines that ask about a point, or wait at one.
 NAMING = ("passed", "why", "notice", "send", "release")
 FOLLOWED = ("error", "code", "at", "kept", "ok", "ran")
@@ -59,7 +63,7 @@ class Copy:
         self.session = Session(told.graph, without_clients(words))
         self.places = {}
         self.pictures, self.named = Pictures(self.session, teller, self.with_place), named_points(told)
-        self.left, self.log = {"all": MOST, "fewer": MOST_OF_FEWER}, Log(self.pictures, told.graph)
+        self.left, self.log = dict(MOST), Log(self.pictures, told.graph)
         self.revision, self.is_there, self.arrived = 0, "locations" in self.session.started, []
         self.at = self.kept = 0
         self.whys_told = (None, None)
@@ -142,7 +146,7 @@ class Copy:
                 self.left[asked] -= queries
                 points = [(q, *it, False) for q in range(count) for it in wanted]
                 before = [(q, *it, True) for q in range(count) for it in dict.fromkeys(waiting)]
-                return asked, self.asked(points + before)
+                return asked, self.asked(before + points)
         return "none", {}
 
     def arriving(self, state):
@@ -163,7 +167,15 @@ class Copy:
             {"q": q, "at": it, "time": [*time], "before": strictly} for q, it, time, strictly in wanted
         ]
         answers = self.pictures.whys(questions, [arriving[it[:2]] for it in wanted]) if wanted else []
+        self.add_rest(questions, answers)
         return {why_key(*it): answer for it, answer in zip(wanted, answers)}
+
+    def add_rest(self, questions, answers):
+        """Adds what is left at rest to the answers about what is not finished, as far as a page goes."""
+        for question, answer in zip(questions, answers):
+            if answer.get("passed") is False and self.left["steps"] > 0:
+                answer["rest"], ran = self.pictures.rest(question)
+                self.left["steps"] -= max(ran, LEAST_STEPS)
 
 
 class Recorder:
@@ -183,6 +195,8 @@ class Recorder:
         first = len(self.ats)
         said = self.try_copy(entry) if self.begun else []
         self.begun = self.begun or "locations" in entry.reply
+        if self.copy and self.done == self.count - 1:
+            self.copy.left = {key: max(left, AT_END[key]) for key, left in self.copy.left.items()}
         self.place(entry, {**shown_line(entry), "asked": asked, "answer": answer + said}, None)
         self.ends += [len(self.ats) - 1] * (len(self.ats) - first)
         self.done += 1
