@@ -336,7 +336,7 @@ class Cancelled(unittest.TestCase):
                 live.answer(path, {})
 
         def between(text):
-            """Between two pieces: the cancel of one tab, and a question of another, which is a faulty one."""
+            """Between two pieces: the cancel of one tab, and a question of another, a faulty one."""
             live.journal.report = lambda text: None
             for path in ("cancel", "state"):
                 tab = threading.Thread(target=ask, args=[path])

@@ -10,7 +10,7 @@ from rewind_tools.layout import Drawn, Edge, layout, tidy
 from rewind_tools.ports import operators_of
 from rewind_tools.showing.loops import around, inner_boxes, loop_svg, loops_of, operator_svg
 from rewind_tools.telling.commands import op_words
-from rewind_tools.wrapping import wrapped
+from rewind_tools.wrapping import folded
 
 LETTER = 7.3
 COUNT_LETTERS = 12
@@ -82,17 +82,24 @@ def laid_out(graph, uses_dot=True):
 def dot_source(graph, boxes, labels):
     """The graph for dot, its names as numbers; a label is an empty box of the size that is wanted."""
     number = {it["name"]: at for at, it in enumerate(graph["vertices"])}
-    lines = ['digraph { rankdir=LR; nodesep=0.25; ranksep=0.22; node [shape=box, fixedsize=true, label=""];']
+    lines = [
+        "digraph { rankdir=LR; newrank=true; nodesep=0.25; ranksep=0.22;",
+        'node [shape=box, fixedsize=true, label=""];',
+    ]
     for name, at in number.items():
         lines.append(f"v{at} [width={boxes[name][0] / 72:.3f}, height={boxes[name][1] / 72:.3f}];")
     lines += clusters(loops_of(graph), number, 1)
+    feedbacks = {it["name"] for it in graph["vertices"] if it["op"] == "feedback"}
     for at, it in enumerate(graph["edges"]):
         wide, high = labels[it["name"]]
         box = (
             f'<table border="0" fixedsize="true" width="{wide:.0f}"'
             f' height="{high:.0f}"><tr><td></td></tr></table>'
         )
-        lines.append(f"v{number[it['from']]} -> v{number[it['to']]} [id={at}, label=<{box}>];")
+        # what leaves a feedback goes back, so that the ranks of its loop go on from the loop's entry
+        ends = (it["from"], it["to"])
+        ends, way = (ends[::-1], "back") if it["from"] in feedbacks else (ends, "forward")
+        lines.append(f"v{number[ends[0]]} -> v{number[ends[1]]} [id={at}, dir={way}, label=<{box}>];")
     return "\n".join([*lines, "}"])
 
 
@@ -125,10 +132,11 @@ def by_dot(graph, boxes, labels):
         middles, paths = {}, {}
         for it in said.get("edges", []):
             name = graph["edges"][int(it["id"])]["name"]
-            words = it["pos"].split()
-            ends = [word[2:] for word in words if word.startswith("e,")]
-            paths[name] = [tidy(point(word)) for word in words if word[1:2] != ","]
-            paths[name] += [tidy(point(word)) for word in ends for _ in range(3)]
+            *tip, first, rest = it["pos"].replace("e,", "").replace("s,", "").split(" ", 2)
+            points = [first, *rest.split()]
+            if "s," in it["pos"]:
+                points.reverse()
+            paths[name] = [tidy(point(word)) for word in [*points, *tip * 3]]
             middles[name] = tidy(point(it["lp"]))
         return Drawn(width, height, nodes, middles, paths)
     except (ValueError, KeyError, IndexError):
@@ -143,10 +151,10 @@ def path_text(points):
 
 def graph_svg(graph, drawn):
     """The graph's picture. Each place has its number in the order of listing, by which the counts are filled
-    in. A graph that is too wide stands in rows; no loop is torn that is not too wide itself."""
+    in. A graph that is too wide is folded into rows."""
     boxes, labels = sizes_of(graph)
     width = WIDEST if drawn.width > SLACK * WIDEST else drawn.width
-    drawn = wrapped(drawn, boxes, labels, width, loop_boxes(graph, drawn, (boxes, labels), width))
+    drawn = folded(drawn, boxes, labels, width, loop_ends(graph, drawn, (boxes, labels)))
     parts = [loop_svg(graph, drawn, (boxes, labels), *it) for it in loops_of(graph)]
     parts += [operator_svg(graph, drawn, (boxes, labels), it) for it in operators_of(graph).values()]
     parts += [
@@ -161,8 +169,6 @@ def graph_svg(graph, drawn):
         parts.append(
             label_svg(it, drawn.labels[it["name"]], labels[it["name"]], len(graph["vertices"]) + at)
         )
-    for name, notes in drawn.notes.items():
-        parts += [f'<text class="more" x="{x:g}" y="{y:g}">{escape(name)}</text>' for x, y in notes]
     wide, high = drawn.width + 2 * RIM, drawn.height + 2 * RIM
     head = (
         '<defs><marker id="tip" viewBox="0 0 8 8" refX="7" refY="4" markerUnits="userSpaceOnUse"'
@@ -175,17 +181,15 @@ def graph_svg(graph, drawn):
     return f"{start}{head}{''.join(parts)}</svg>"
 
 
-def loop_boxes(graph, drawn, sizes, width):
-    """The boxes around the loops that fit into a row, each as its left, right, top and bottom."""
+def loop_ends(graph, drawn, sizes):
+    """The left and right ends of the loops."""
     found = [inner_boxes(graph, drawn, sizes, inside) for _, inside in loops_of(graph)]
-    boxes = [(*around(it, RIM)[::2], *around(it, RIM)[1::2]) for it in found]
-    return [it for it in boxes if it[1] - it[0] <= width]
+    return [around(it, RIM)[::2] for it in found]
 
 
-def edge_svg(edge, curves, number):
+def edge_svg(edge, curve, number):
     route = "exchange" if edge["route"] == "exchange" else "local"
-    path = " ".join(map(path_text, curves))
-    return f'<path class="edge {route}" data-edge="{number}" d="{path}" marker-end="url(#tip)"/>'
+    return f'<path class="edge {route}" data-edge="{number}" d="{path_text(curve)}" marker-end="url(#tip)"/>'
 
 
 def vertex_svg(vertex, middle, size, number):

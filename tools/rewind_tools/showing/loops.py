@@ -1,6 +1,6 @@
 """The loops of a graph and its operators by ports, and the frame round each: a rectangle in each row of the
-drawing in which it has vertices. Where another vertex stands in such a rectangle, the frame follows the
-vertices and the edges that are in it."""
+drawing in which it has vertices, and one round each fold between them. Where another vertex stands in such a
+rectangle, the frame follows the vertices and the edges that are in it."""
 from html import escape
 
 # How far the frame of an outermost loop goes beyond what is in it.
@@ -87,9 +87,9 @@ def inner_boxes(graph, drawn, sizes, inside):
 def frames_of(graph, drawn, sizes, inside, rim):
     """The boxes around some vertices and the edges between them."""
     boxes, _ = sizes
-    edges = [it for it in graph["edges"] if it["from"] in inside and it["to"] in inside]
-    curves = [it for edge in edges for it in drawn.curves[edge["name"]]]
-    inner = inner_boxes(graph, drawn, sizes, inside)
-    inner += [around([(x, y, x, y) for x, y in it], 0) for it in curves]
+    edges = [it["name"] for it in graph["edges"] if it["from"] in inside and it["to"] in inside]
+    inner = inner_boxes(graph, drawn, sizes, inside) + [box for it in edges for box in drawn.boxes[it]]
     others = [box_of(drawn.nodes[it], boxes[it]) for it in boxes if it not in inside]
-    return frames(drawn, inner, others, rim)
+    folds = [fold for it in edges for fold in drawn.folds[it]]
+    round_ = [[box for at, box in folds if at == cut] for cut in sorted({at for at, _ in folds})]
+    return frames(drawn, inner, others, rim) + [around(it, rim) for it in round_]

@@ -22,9 +22,9 @@ from rewind_tools.telling.table import Points
 # How many steps of runs a page shows at most, those that end a run aside; how long a line or a reply is;
 # how many points of the table it shows; and for how many states it asks what the last step changed.
 MOST_STEPS, LONGEST, ROWS, MOST_EFFECTS = 10_000, 2000, 400, 1000
-# How many queries for reasons a page asks about all points; how many more about fewer of them, which are those
-# that the script's lines name, and those at which a vertex waits for its notification; how many steps the
-# program runs for what is left at rest; and what of each there is at the end, where some pages open.
+# How many queries for reasons a page asks about all points; how many more about fewer of them, which are
+# those that the script's lines name, and those at which a vertex waits for its notification; how many steps
+# the program runs for what is left at rest; and what of each there is at the end, where some pages open.
 MOST = {"all": 20_000, "fewer": 20_000, "steps": 500_000}
 AT_END = {"all": 1000, "fewer": 4000, "steps": 20_000}
 # As how many steps one answer about what is left at rest counts at least.
