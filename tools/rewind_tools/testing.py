@@ -104,6 +104,16 @@ def run(name, needs_program=True, flags=()):
     sys.exit(1 if failed else 0)
 
 
+def put_program(room, text, end=f"exec -a rewind '{PROGRAM}' \"$@\""):
+    """Writes a program of bash to a folder, at whose end it is the program that is tested; returns its
+    path."""
+    path = os.path.join(room, "program")
+    with open(path, "w", encoding="utf-8") as it:
+        it.write(f"#!/bin/bash\n{text}\n{end}\n")
+    os.chmod(path, 0o755)
+    return path
+
+
 def programs_of(pid):
     """The numbers of the programs that a tool has started, the first one first."""
     found = []
