@@ -158,27 +158,37 @@ def first_time(port):
     return (0,) * (port.depth + 1) if port.depth else 0
 
 
+class Located(dict):
+    """By a port and a time of the logs the location and the time that the program has for it."""
+
+    def __init__(self, dataflow, times):
+        super().__init__()
+        self.dataflow, self.times = dataflow, times
+
+    def __missing__(self, point):
+        port, time = point
+        self[point] = found = self.dataflow.place(port), self.times[time].stamp
+        return found
+
+
 class Planner:
     def __init__(self, dataflow, progress, report):
         self.dataflow, self.progress, self.report = dataflow, progress, report
         self.steps = Steps(progress.epochs)
+        self.located = Located(dataflow, self.steps.times)
         self.workers, self.pools, self.untold = [], {}, []
         # the traces so far, in the order in which they were planned: Steps, and messages that are Sent
         self.made = []
-        self.many = {
-            point
-            for change in progress.changes.values()
-            for counts in (change.takes, change.delivered)
-            for point, n in counts.items()
-            if n > MOST_EXACT
-        }
+        self.many, self.totals, self.count = set(), {}, len(progress.changes)
+        for change in progress.changes.values():
+            for sign, counts in ((1, change.delivered), (-1, change.takes)):
+                for point, n in counts.items():
+                    self.totals[point] = self.totals.get(point, 0) + sign * n
+                    if n > MOST_EXACT:
+                        self.many.add(point)
         # by a batch and a message that it consumes, the batches that consume theirs before it; and whether
         # workers may have made more messages that no batch tells than are missing, and consumed as many
         self.after, self.is_generous = {}, False
-        self.totals, self.count = collections.Counter(), len(progress.changes)
-        for change in progress.changes.values():
-            self.totals.update(change.delivered)
-            self.totals.subtract(change.takes)
 
     def plan(self):
         for self.is_generous in (False, True):
@@ -235,7 +245,7 @@ class Planner:
         """Plans what a worker does up to its next broadcast; whether there was anything."""
         if worker.wrong:
             return False
-        moved = any([self.make(it, False) for it in worker.next])
+        moved = any([self.make(it, False) for it in worker.next if it.rises or it.makes])
         while worker.at < len(worker.events) and not worker.wrong:
             is_send, batch = worker.events[worker.at]
             if is_send:
@@ -263,13 +273,15 @@ class Planner:
 
     def explain(self, pending):
         """Plans the rest of the steps of a worker's batch, if all messages that it consumes are there."""
-        if not all(self.is_there(pending, *it) for it in pending.takes.items()):
-            return False
+        for point, count in pending.takes.items():
+            if not self.is_there(pending, point, count):
+                return False
         for point, count in pending.takes.items():
             self.take_from(pending, point, count)
         pending.takes = {}
-        self.make(pending, False)
-        self.make(pending, True)
+        for is_far in (False, True):
+            if pending.rises or pending.makes:
+                self.make(pending, is_far)
         wrong = next(iter([*pending.makes, *pending.rises]), None)
         if wrong or not self.finish(pending):
             self.stop(pending, wrong or pending.wrong)
@@ -303,12 +315,12 @@ class Planner:
             worker.wrong, step.wanted = step, batch.seq_no - lost
             worker.late.append(step)
             return
-        worker.early[batch.source, number] = batch
-        while (batch.source, worker.got[batch.source] + 1) in worker.early:
-            worker.got[batch.source] += 1
-            number = worker.got[batch.source]
-            its = worker.early.pop((batch.source, number))
-            worker.late.append(self.steps.receive(worker, its, number, None))
+        source, got = batch.source, worker.got[batch.source]
+        worker.early[source, number] = batch
+        while its := worker.early.pop((source, got + 1), None):
+            got += 1
+            worker.late.append(self.steps.receive(worker, its, got, None))
+        worker.got[source] = got
 
     def changed(self, batch, apart):
         """The change of a batch that was received as another than it was sent."""
@@ -316,12 +328,8 @@ class Planner:
         if moved is None:
             return OTHER
         change = collections.Counter(moved)
-        change.update({self.place(*it): n for it, n in apart.items()})
+        change.update({self.located[it]: n for it, n in apart.items()})
         return change
-
-    def place(self, port, time):
-        """The location of an entry, with its time as the program has it."""
-        return self.dataflow.place(port), self.steps.times[time].stamp
 
     def model_change(self, pending):
         """What the model moves with a worker's batch: a capability counts once, however many hold it. None,
@@ -331,34 +339,38 @@ class Planner:
         messages, into = self.progress.changes[pending.batch].messages(), self.dataflow.into
         if self.many and not self.many.isdisjoint(messages) or any(len(into[it]) > 1 for it, _ in messages):
             return None
-        return {self.place(*it): n for of in (messages, pending.turned) for it, n in of.items()}
+        located, points = self.located, [*messages.items(), *pending.turned.items()]
+        return {located[it]: n for it, n in points}
 
     def make(self, pending, is_far):
         """Plans what a batch of a worker produces, and its new capabilities: from capabilities at the same
         operator, or, if `is_far`, from others that lead there. Whether there were any."""
         moved = False
         for point in list(pending.rises):
-            moved |= self.raise_to(pending, *point, is_far)
+            moved |= self.raise_to(pending, point, is_far)
         for point in list(pending.makes):
-            moved |= self.produce(pending, *point, is_far)
+            moved |= self.produce(pending, point, is_far)
         return moved
 
-    def raise_to(self, pending, output, time, is_far):
-        since, worker = self.capability(pending, output, time, is_far), pending.worker
+    def raise_to(self, pending, point, is_far):
+        (output, time), worker = point, pending.worker
+        since = self.capability(pending, output, time, is_far)
         if since is None:
             return False
         if since != time:
-            self.made.append(self.steps.keep(pending, output, since, time, (output, time)))
-        pending.lent.get(output, set()).discard(time)
-        worker.held[output].set(time, pending.rises.pop((output, time)))
-        worker.born[output, time], pending.turned[output, time] = pending.batch, 1
+            self.made.append(self.steps.keep(pending, output, since, time, point))
+        if output in pending.lent:
+            pending.lent[output].discard(time)
+        worker.held[output].set(time, pending.rises.pop(point))
+        worker.born[point], pending.turned[point] = pending.batch, 1
         return True
 
-    def produce(self, pending, target, time, is_far):
+    def produce(self, pending, point, is_far):
+        target, time = point
         for hop in self.dataflow.into[target]:
             since = self.capability(pending, hop.source, time, is_far)
             if since is not None:
-                self.send(pending, hop, since, time, pending.makes.pop((target, time)))
+                self.send(pending, hop, since, time, pending.makes.pop(point))
                 return True
         return False
 
@@ -383,8 +395,11 @@ class Planner:
     def capability(self, pending, output, time, is_far):
         """The time of a capability of a worker at an output, at or before a time. If it has none, messages
         lead to one at that time, if they can; else None."""
-        for way in self.dataflow.ways(output):
-            if not is_far and way.on and way.on.hop:
+        since = self.there(pending, output, time)
+        if since is not None:
+            return since
+        for way in self.dataflow.ways(output)[1:]:
+            if not is_far and way.on.hop:
                 return None
             start = delayed(time, -way.delay)
             since = None if start is None else self.there(pending, way.source, start)

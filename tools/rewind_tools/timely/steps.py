@@ -10,7 +10,7 @@ A Step is a Line of a trace whose number is its batch's line; `entry` is the poi
 message has the value 0."""
 from typing import NamedTuple
 
-from rewind_tools.following.reading import NOTHING, NOTHING_OWN, Line
+from rewind_tools.following.reading import NOTHING, NOTHING_OWN, Line, Own
 from rewind_tools.timely.dataflow import delayed
 
 # How many values a send has at most; and how many messages of one entry are followed one by one.
@@ -47,11 +47,19 @@ class Times(dict):
         return found
 
 
+class Numbers(dict):
+    """By a number what the own keys of a line say that has no other."""
+
+    def __missing__(self, number):
+        self[number] = found = Own(number, None, None, NOTHING_OWN.counted)
+        return found
+
+
 class Steps:
     """Makes Steps, which share what is equal, since there may be a million."""
 
     def __init__(self, epochs):
-        self.times, self.texts, self.owns = Times(epochs), {}, {}
+        self.times, self.texts, self.owns = Times(epochs), {}, Numbers()
 
     def record(self, hop, to, time):
         """A message on a channel, as a follower knows it."""
@@ -104,21 +112,18 @@ class Steps:
 
     def broadcast(self, worker, batch, number, change):
         text = b'{"do":"broadcast","p":%d}' % worker.index
-        text = self.texts.setdefault(text, text)
-        return Step(worker, batch, "broadcast", text, None, own=self.own(number, change))
+        return Step(worker, batch, "broadcast", text, None, None, NOTHING, self.own(number, change))
 
     def receive(self, worker, batch, number, change):
-        text = b'{"do":"receive","from":%d,"to":%d}' % (batch.source, worker.index)
-        text = self.texts.setdefault(text, text)
-        return Step(worker, batch, "receive", text, None, batch.source, own=self.own(number, change))
+        ends = batch.source, worker.index
+        text = self.texts.get(ends)
+        if text is None:
+            text = self.texts[ends] = b'{"do":"receive","from":%d,"to":%d}' % ends
+        return Step(worker, batch, "receive", text, None, ends[0], NOTHING, self.own(number, change))
 
     def own(self, number, change):
         """A batch's number and its change, as a follower compares them."""
-        if change is not None:
-            return NOTHING_OWN._replace(number=number, change=change)
-        if number not in self.owns:
-            self.owns[number] = NOTHING_OWN._replace(number=number)
-        return self.owns[number]
+        return self.owns[number] if change is None else Own(number, change, None, NOTHING_OWN.counted)
 
     def sent(self, sent, are_many):
         """The steps that send messages; the worker itself gets those that nobody takes."""
