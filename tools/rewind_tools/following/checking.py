@@ -1,7 +1,7 @@
 """Executes the lines of the traces, in batches, and compares each reply with what the line says.
 
     follower = Follower(program, merging)
-    follower.follow()             or follow(lines): these lines first, in an order in which they can be executed
+    follower.follow()             or follow(lines): these first, in an order in which they can be executed
     follower.executed             the Lines that were executed, in their order
     follower.wrong                by worker a Wrong, if a line of it was refused or differs
     follower.waiting              by worker the program's refusal of a line that waits for others

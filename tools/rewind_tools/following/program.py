@@ -80,7 +80,7 @@ class Program:
         return list(map(self.names.told, self.session.ask_lines(list(map(self.names.given, texts)))))
 
     def ask_pieces(self, pieces):
-        """The replies to lists of lines, list by list, as bytes; lines are written while replies are read."""
+        """The replies to lists of lines, list by list; lines are written while replies are read."""
         if not self.names.short:
             return self.session.ask_pieces(pieces)
         given = ([self.names.given(it) for it in texts] for texts in pieces)

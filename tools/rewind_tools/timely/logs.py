@@ -156,8 +156,8 @@ def check_batch(value):
 
 
 class Reader:
-    """Reads one file. Each batch is logged by all workers: so equal entries are one object for all files, and
-    of a line the part from SHARED on is read once (`known`)."""
+    """Reads one file. Each batch is logged by all workers: so equal entries are one object for all files,
+    and the part of a line from SHARED on is read once (`known`)."""
 
     def __init__(self, path, entries, known):
         self.log, self.entries, self.known = Log(path), entries, known

@@ -3,7 +3,7 @@ broadcasts and receives.
 
     planner = Planner(dataflow, progress, report)
     planner.plan()                     NoOrder, if the batches wait for each other in each order tried
-    planner.all_steps()                the Steps of all traces, in an order in which the protocol may allow them
+    planner.all_steps()                the Steps of all traces, in an order in which each can be executed
     planner.right(steps)               those before the one of each worker that no run can have
     planner.left()                     messages that no batch says are consumed: Sent, with `left` of them
     planner.untold                     Untold messages: consumed, and no batch says that they were produced
@@ -134,7 +134,7 @@ class Worker:
         self.born, self.gone = {(it, first_time(it)): FROM_START for it in dataflow.outputs}, {}
         batches = {scope: [it for it in self.sends if it.scope == scope] for scope in dataflow.scopes}
         self.next = [Pending(self, its, scope) for scope, its in batches.items()]
-        # a step that no run can have, which ends its trace; and how many capabilities there were at its entry
+        # a step that no run can have, which ends its trace; how many capabilities there were at its entry
         self.wrong, self.had = None, 0
         # by its number what the model moves with a batch
         self.moved = {}
@@ -384,7 +384,7 @@ class Planner:
 
     def send_out(self, pending, hop, since, time, count):
         """Plans that messages leave a scope: one for all of them, from which they are sent outside."""
-        worker, inside, outside = pending.worker, hop.target, hop.target.across
+        inside, outside = hop.target, hop.target.across
         later = across(inside, time)
         self.made += self.steps.hop(pending, hop, since, time)
         self.made += self.steps.cross(pending, inside.edges[0], time, later)
