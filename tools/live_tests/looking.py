@@ -119,7 +119,7 @@ class Pictures(unittest.TestCase):
     def test_pictures(self):
         """Takes pictures, if a folder is given for them."""
         for width, is_dark in ((1280, False), (1920, True), (800, False)) if FOLDER else ():
-            with stuck() as live, Page(live, width, 943, is_dark) as page:
+            with stuck() as live, Page(live, width, 943 if width > 1000 else 1400, is_dark) as page:
                 page.click_text("#candidates button", "runs the notification of total")
                 page.says("why", "finished")
                 picture(page, f"stuck-{width}-{'dark' if is_dark else 'light'}")

@@ -28,6 +28,12 @@ const it = document.querySelectorAll("#feed select")[arguments[0]];
 it.selectedIndex = [...it.options].findIndex((option) => option.textContent === arguments[1]);
 it.dispatchEvent(new Event("change"));
 """
+# Keeps what the page says of its progress.
+WATCH = """
+window.seen = [];
+const it = document.getElementById("progress");
+new MutationObserver(() => window.seen.push(it.textContent)).observe(it, { childList: true });
+"""
 needs_browser = unittest.skipUnless(
     browser.is_there(), "no chromium and chromedriver on the PATH for the page"
 )
@@ -201,6 +207,14 @@ class Page(browser.Browser):
             self.__exit__()
             raise
         return self
+
+    def run_with(self, module, script, *args):
+        """Runs a script that has a module of the page as `it`."""
+        load = f"const it = await import(new URL('{module}.js', location.href));"
+        return self.run(f"return (async () => {{ {load} {script} }})()", *args)
+
+    def is_idle(self):
+        return self.run("return rewind.state.waiting === 0")
 
     def at(self, position, what):
         """Waits until the page is at a position."""

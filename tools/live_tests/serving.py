@@ -65,13 +65,13 @@ class Requests(unittest.TestCase):
     def test_page(self):
         status, headers, page = self.live.get()
         self.assertEqual(status, 200)
-        self.assertIn('<script src="live.js">', page)
+        self.assertIn('<script type="module" src="live.js">', page)
         policy = headers["Content-Security-Policy"]
         self.assertTrue("default-src 'none'" in policy and "unsafe" not in policy, policy)
         self.assertLess(self.live.seconds, 5)
 
     def test_files(self):
-        for name in ("page.css", "base.js", "live.js"):
+        for name in ("page.css", "store.js", "live.js"):
             self.assertEqual(self.live.get(name)[0], 200)
         self.assertEqual(self.live.get("server.py")[0], 404)
         self.assertIn(self.live.get("../session.py")[0], (403, 404))

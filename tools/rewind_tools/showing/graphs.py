@@ -197,7 +197,7 @@ def vertex_svg(vertex, middle, size, number):
     box = f'<rect x="{x - wide / 2:g}" y="{y - high / 2:g}" width="{wide:g}" height="{high:g}" rx="9"/>'
     name = f'<text class="name" x="{x:g}" y="{y - 12:g}">{escape(vertex["name"])}</text>'
     kind = f'<text class="kind" x="{x:g}" y="{y + 4:g}">{escape(kind_of(vertex))}</text>'
-    count = f'<text class="count" x="{x:g}" y="{y + 21:g}"></text>'
+    count = f'<text class="count" lengthAdjust="spacingAndGlyphs" x="{x:g}" y="{y + 21:g}"></text>'
     start = f'<g class="place vertex" data-place="{number}" {PRESSED}><title></title>'
     return f"{start}{box}{name}{kind}{count}</g>"
 
@@ -210,6 +210,6 @@ def label_svg(edge, middle, size, number):
     )
     port = f'<tspan class="kind">{port_of(edge)}</tspan>'
     name = f'<text class="name" x="{x:g}" y="{y - 4:g}">{escape(edge["name"])}{port}</text>'
-    count = f'<text class="count" x="{x:g}" y="{y + 12:g}"></text>'
+    count = f'<text class="count" lengthAdjust="spacingAndGlyphs" x="{x:g}" y="{y + 12:g}"></text>'
     start = f'<g class="place label" data-place="{number}" {PRESSED}><title></title>'
     return f"{start}{back}{name}{count}</g>"

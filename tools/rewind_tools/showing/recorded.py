@@ -8,7 +8,7 @@ from html import escape
 
 from rewind_tools import sources
 from rewind_tools.live.pictures import LAST_COUNTER, Pictures
-from rewind_tools.page import SCRIPTS, filled, graph_of, part, places_of, verdict_of
+from rewind_tools.page import filled, graph_of, inlined, part, places_of, verdict_of
 from rewind_tools.runs import run_script, without_clients
 from rewind_tools.script import COMMANDS, STEPS
 from rewind_tools.session import Ended, Session
@@ -317,7 +317,7 @@ def page_of(
         "command": escape(" ".join(["rewind", *words, "<", name])), "verdict": verdict_of(verdict, marks),
         "about": escape(json.dumps(about)), **drawn, "last": str(len(run["ats"]) - 1),
         "style": f"<style>\n{part('page.css')}</style>",
-        "scripts": f'<script type="application/json" id="recorded">{embedded(run)}</script>\n<script>\n'
-        + "\n".join(map(part, SCRIPTS["recorded"])) + "</script>",
+        "scripts": f'<script type="application/json" id="recorded">{embedded(run)}</script>\n'
+        f'<script type="module">\n{inlined("recorded.js", set())}</script>',
     }  # fmt: skip
     return filled("recorded", values), told
