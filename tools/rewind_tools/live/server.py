@@ -17,7 +17,6 @@ from rewind_tools import finishing, opening, typed
 from rewind_tools.journal import Journal, Stopped, opened_by
 from rewind_tools.live.over_time import OverTime
 from rewind_tools.live.pictures import Pictures
-from rewind_tools.live.turned import Turned
 from rewind_tools.page import FILES, live_page, part
 from rewind_tools.script import COMMANDS, STEPS
 from rewind_tools.second import Second
@@ -76,7 +75,7 @@ class Live:
         )
         self.journal = Journal(session, name, say)
         self.pictures = Pictures(session, self.teller, self.journal.with_place)
-        self.over = OverTime(self.teller.graph, Turned(), self.teller.processors)
+        self.over = OverTime(self.teller.graph, self.teller.processors)
         self.second = Second(self.journal, self.show_progress)
         self.revision, self.ended, self.progress = 0, None, ""
         self.rounds = finishing.Rounds()
