@@ -171,13 +171,11 @@ function stepMark({ kind, p, position, words }) {
 
 // The labels for which there is room before the next mark on the lane.
 function labelsOf(items) {
-  const next = new Map(), labels = [];
-  for (const it of [...items].reverse()) {
-    const room = (next.has(it.p) ? next.get(it.p) : LEFT + plot + RIGHT) - x(it.position) - 18;
-    if (it.label && it.label.length * LETTER < room) labels.push(drawn("text", { class: "label", x: x(it.position) + 9, y: y(it.p) + 4 }, it.label));
-    next.set(it.p, x(it.position));
-  }
-  return labels;
+  const marks = [...items, ...state.picture.marks.map(({ p, at }) => ({ p, position: at + 0.5 }))];
+  return items.filter(({ p, position, label }) => {
+    const next = Math.min(...marks.filter((it) => it.p === p && it.position > position).map((it) => x(it.position)), LEFT + plot + RIGHT);
+    return label && label.length * LETTER < next - x(position) - 18;
+  }).map((it) => drawn("text", { class: "label", x: x(it.position) + 9, y: y(it.p) + 4 }, it.label));
 }
 
 // An arrow from a step to another, or, if that is not in sight, a short one towards its lane.

@@ -301,7 +301,7 @@ def page_of(
     """The page of a script's run, and the run. `marks` has what was refused, which is shown in red: the
     number of the step before it, or "end", the worker and a text. `places` has by the number of a line of
     the script where that comes from, as bytes (rewind_tools/sources.py). The verdict is what was said of a
-    run that was followed; with one the page opens at its end."""
+    run that was followed; with one the page opens at its end, else at its first position with a state."""
     told = run_script(script, words, ())
     start = next((it.reply for it in told.entries if "locations" in it.reply), {})
     has_form = start or any("location" in it.reply for it in told.entries[:1])
@@ -311,7 +311,8 @@ def page_of(
     drawn = graph_of(graph, uses_dot) if has_form else none
     about = {"processors": count, "places": places_of(graph), "name": name}
     run = recorded(told, script, words, report, marks, places or {})
-    about["opens"] = len(run["ats"]) - 1 if verdict or is_at_end else 0
+    first = next((it for it, at in enumerate(run["ats"]) if at is not None), 0)
+    about["opens"] = len(run["ats"]) - 1 if verdict or is_at_end else first
     values = {
         "title": escape(f"{name}, {counted(count, 'processor')}" if start else name),
         "command": escape(" ".join(["rewind", *words, "<", name])), "verdict": verdict_of(verdict, marks),
