@@ -68,7 +68,7 @@ export function redrawn(element, ...parts) {
 }
 
 // The integers of a text as texts, or the first part of it that is none, or is out of range.
-export function numbersOf(text, least, greatest) {
+function numbersOf(text, least, greatest) {
   const parts = text.split(/[\s,]+/).filter(Boolean);
   const wrong = parts.find((it) => !/^-?\d+$/.test(it));
   if (wrong !== undefined) return { fault: `"${wrong}" is not an integer` };

@@ -22,7 +22,7 @@ export async function execute(line, carry = command) {
 
 // Asks whether steps may be discarded, which can be saved first.
 function isWarned(count) {
-  by("warns").textContent = `Executing another step here discards the ${count === 1 ? "1 later step" : `${count} later steps`}. They can be brought back.`;
+  by("warns").textContent = `Executing another step here discards the ${plural(count, "later step")}. They can be brought back.`;
   by("warning").showModal();
   return new Promise((done) => {
     const end = (isGoing) => { by("warning").close(); done(isGoing); };

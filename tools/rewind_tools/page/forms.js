@@ -3,7 +3,7 @@ import { asked, inTurn } from "./asking.js";
 import { button, by, field, GREATEST_COUNTER, input, labelled, made, numberOf, onSubmit, options, redrawn, select, valuesOf } from "./base.js";
 import { execute, jump, refreshed } from "./commands.js";
 import { ownLane } from "./known.js";
-import { question, say, set, state, view } from "./store.js";
+import { question, say, state, view } from "./store.js";
 
 const MOST_TURNS = 1000, LISTED_TURNS = 20;
 

@@ -82,10 +82,10 @@ if (graph) {
   by("larger").addEventListener("click", () => zoomBy(1.25));
   by("smaller").addEventListener("click", () => zoomBy(0.8));
   by("fit").addEventListener("click", () => zoomBy(null));
-  new ResizeObserver(() => {
+  new ResizeObserver(() => requestAnimationFrame(() => {
     if (zoom === null) showZoom();
     showChangedPlace();
-  }).observe(frame);
+  })).observe(frame);
 }
 for (const place of places) {
   const choose = () => choosePlace(Number(place.dataset.place));

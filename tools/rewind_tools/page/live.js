@@ -8,7 +8,7 @@ import "./forms.js";
 import "./graph.js";
 import { heldForms } from "./held.js";
 import { listen } from "./keys.js";
-import { about, processors, say, set, source, state, view } from "./store.js";
+import { about, processors, say, source, state, view } from "./store.js";
 import { ZOOM_KEYS, ZOOMS } from "./time.js";
 
 Object.assign(source, {
