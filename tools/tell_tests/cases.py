@@ -2,7 +2,7 @@
 in some what must not."""
 import json
 
-from rewind_tools import graph_text
+from rewind_tools.testing import LINE, graph_line
 from rewind_tools.typed import line_of, words_of_line
 
 
@@ -31,26 +31,20 @@ def passed(at, q=0):
     return {"passed": {"at": at, "q": q, "time": [0]}}
 
 
-def paths(*lines):
-    """The line of a graph that is written as paths."""
-    return json.dumps(graph_text.read(lines))
-
-
 A, M, S, Z = vertex("a", "input"), vertex("m", "add", k=1), vertex("s", "sum"), vertex("z", "sink")
-LINE = paths("a(input) --[az]--> z(sink)")
-ADD = paths("a(input) --[am]--> m(add k=1) --[mz]--> z(sink)")
-SUM = paths("a(input) --[as]--> s(sum) --[sz]--> z(sink)")
-DISTINCT = paths("a(input) --[ad]--> d(distinct) --[dz]--> z(sink)")
-EXCHANGE = paths("a(input) --[az] exchange--> z(sink)")
-HELD = paths("a(input) --[ah]--> h(hold) --[hz]--> z(sink)")
+ADD = graph_line("a(input) --[am]--> m(add k=1) --[mz]--> z(sink)")
+SUM = graph_line("a(input) --[as]--> s(sum) --[sz]--> z(sink)")
+DISTINCT = graph_line("a(input) --[ad]--> d(distinct) --[dz]--> z(sink)")
+EXCHANGE = graph_line("a(input) --[az] exchange--> z(sink)")
+HELD = graph_line("a(input) --[ah]--> h(hold) --[hz]--> z(sink)")
 # Chains that enter loops, one within another.
 DEEP, DEEPER = (
-    paths(" --> ".join(["a(input)", *(f"i{it}(ingress)" for it in range(depth)), "z(sink)"]))
+    graph_line(" --> ".join(["a(input)", *(f"i{it}(ingress)" for it in range(depth)), "z(sink)"]))
     for depth in (5, 7)
 )
 FEED, *MOVES = typed("feed 0 a 5 close; run 3; broadcast 0; run 4; jump 2; redo")
 LOOP = [
-    paths("a(input) --> in(ingress) --> small(below k=20) --> next(feedback) --> small --> out(egress)",
+    graph_line("a(input) --> in(ingress) --> small(below k=20) --> next(feedback) --> small --> out(egress)",
         "out --> z(sink)"), FEED, *MOVES,
 ]  # fmt: skip
 SUMS = [SUM, *typed("feed 0 a 2 3 next; take 0 as 0 2; take 0 as 0 3; run 2")]
@@ -577,10 +571,10 @@ TOLD = {
     "a misspelled hold": ([], [V5, HELD.replace("hold", "hodl")], 2, [
         (2, 'vertices[1] (h): the nearest op is "hold"'),
     ]),
-    "a hold with a number": ([], [V5, HELD.replace('"hold"', '"hold", "k": 1')], 2, [
+    "a hold with a number": ([], [V5, HELD.replace('"hold"', '"hold","k":1')], 2, [
         (2, 'vertices[1] (h): the key "k" is too many'),
     ]),
-    "a hold's second port": ([], [V5, HELD.replace('"from": "h", "port": 0', '"from": "h", "port": 1')],
+    "a hold's second port": ([], [V5, HELD.replace('"from":"h","port":0', '"from":"h","port":1')],
         2, [
         (2, "(43 BadPort)"),
         (2, 'faulty: the edge "hz" leaves the hold "h" on port 1, which has port 0 alone'),

@@ -2,11 +2,12 @@
 processor may keep back. Scripts as in cases.py, and graphs that are refused."""
 import json
 
-from tell_tests.cases import A, LINE, S, V4, V5, V6, Z, do, edge, graph, paths, typed, vertex
+from rewind_tools.testing import LINE, graph_line
+from tell_tests.cases import A, S, V4, V5, V6, Z, do, edge, graph, typed, vertex
 
 X = vertex("x", "opaque", ports=2)
-TRACED = paths("a(input) --[ax]--> x(opaque ports=2) --[xy]--> y(sink)", "x --[xz] port=1--> z(sink)")
-SOURCE = paths("x(opaque ports=1 starts=true) --[xz] exchange--> z(sink)")
+TRACED = graph_line("a(input) --[ax]--> x(opaque ports=2) --[xy]--> y(sink)", "x --[xz] port=1--> z(sink)")
+SOURCE = graph_line("x(opaque ports=1 starts=true) --[xz] exchange--> z(sink)")
 SUM_BESIDE = json.dumps(
     graph([A, X, S, vertex("h", "hold")], [edge("as", "a", "s"), edge("ah", "a", "h"), edge("ax", "a", "x")])
 )

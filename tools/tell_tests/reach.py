@@ -1,5 +1,6 @@
 """What tools/test_tell tells of scripts of version 7: what can still happen, and runs by a seed."""
-from tell_tests.cases import EXCHANGE, LINE, V6, V7, do, typed
+from rewind_tools.testing import LINE
+from tell_tests.cases import EXCHANGE, V6, V7, do, typed
 
 PASSED = {"passed": {"q": 0, "at": "z", "time": [0]}}
 
