@@ -84,7 +84,8 @@ def live_page(graph, name, processors, verdict="", marks=()):
         "title": escape(name), "about": escape(json.dumps(about)), "command": "", "last": "0",
         "verdict": verdict_of(verdict, marks),
         **graph_of(graph),
-        "style": '<link rel="stylesheet" href="page.css">',
+        "style": '<link rel="stylesheet" href="page.css">\n'
+        + "\n".join(f'<link rel="modulepreload" href="{it}">' for it in MODULES if it != "recorded.js"),
         "scripts": '<script type="module" src="live.js"></script>',
     }  # fmt: skip
     return filled("live", values)
