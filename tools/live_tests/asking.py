@@ -3,9 +3,8 @@ import json
 import time
 import unittest
 
-from live_tests.served import Served, around, chain, feed, lines_for, of_class, opening_of, stuck
+from live_tests.served import Served, around, chain, feed, live_of, of_class, opening_of, stuck
 from rewind_tools import runs
-from rewind_tools.live.server import Live
 from rewind_tools.live.turned import Since
 from rewind_tools.session import Session
 
@@ -349,11 +348,8 @@ class Arrows(unittest.TestCase):
         tell."""
         graph, _ = chain(2, 0, 0)
         session = Session(graph, ["--processors", "3"])
-        live = Live(session, "arrows")
-        self.addCleanup(live.close)
-        for at in range(40):
-            live.execute(lines_for([feed([at], p=at % 3), {"do": "broadcast", "p": at % 3}]))
-        live.execute(lines_for([{"do": "run", "limit": 150}]))
+        lines = [it for at in range(40) for it in (feed([at], p=at % 3), {"do": "broadcast", "p": at % 3})]
+        live = live_of(self, session, [*lines, {"do": "run", "limit": 150}])
         waiting, told = {}, []
         for at in range(1, live.kept + 1):
             for sender, receiver, old, new in session.ask({"do": "effect", "to": at})["changed"]["queues"]:

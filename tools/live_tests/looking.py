@@ -3,7 +3,8 @@ import json
 import os
 import unittest
 
-from live_tests.served import Page, Served, feed, needs_browser, opening_of, stuck
+from live_tests.served import Page, Served, feed, needs_browser, opening_of, row, stuck
+from rewind_tools import graph_text
 
 # Where pictures of the page go, if anywhere.
 FOLDER = os.environ.get("LIVE_PICTURES")
@@ -48,19 +49,8 @@ def picture(page, name):
 
 def graph_of_58():
     """A graph of 58 locations, with a loop around most of it."""
-    names = [f"v{it}" for it in range(26)]
-    vertices = [
-        {"name": "a", "op": "input", "depth": 0},
-        {"name": "in", "op": "ingress", "depth": 0},
-        *({"name": it, "op": "add", "k": 1, "depth": 1} for it in names),
-        {"name": "around", "op": "feedback", "depth": 1},
-    ]
-    ends = ["a", "in", *names, "around", "v0"]
-    edges = [
-        {"name": f"e{at}", "from": one, "port": 0, "to": two, "route": "exchange"}
-        for at, (one, two) in enumerate(zip(ends, ends[1:]))
-    ]
-    return json.dumps({"vertices": vertices, "edges": edges})
+    names = (f"v{it}(add k=1)" for it in range(26))
+    return json.dumps(graph_text.read([row("a(input)", "in(ingress)", *names, "around(feedback)", "v0")]))
 
 
 @needs_browser

@@ -4,8 +4,8 @@ import time
 import unittest
 
 from live_tests import IS_PROVED
-from live_tests.served import WATCH, Page, Served, chain, feed, lines_for, needs_browser
-from rewind_tools.live.server import LONG_REACH, SHORT_REACH, Live
+from live_tests.served import WATCH, Page, Served, chain, feed, live_of, needs_browser
+from rewind_tools.live.server import LONG_REACH, SHORT_REACH
 from rewind_tools.session import Session
 
 # Presses a key, or clicks a step. Returns, once the answer is drawn, the milliseconds that this took, the
@@ -73,9 +73,7 @@ class InSight(unittest.TestCase):
         steps; a point is asked about."""
         graph, lines = chain(2, feeds, 6)
         session = Counting(graph, ["--processors", "2"])
-        live = Live(session, "clicks")
-        self.addCleanup(live.close)
-        live.execute(lines_for([*lines, {"do": "run", "limit": steps}]))
+        live = live_of(self, session, [*lines, {"do": "run", "limit": steps}])
         sight = {"why": {"q": 0, "at": "v1", "time": [0]}}
         live.answer("picture", {"sight": sight})
         middle, most = live.kept // 2, {}
@@ -108,9 +106,7 @@ class InSight(unittest.TestCase):
         """Looks at other parts of what is shown ask for the state once."""
         graph, lines = chain(2, 50, 6)
         session = Counting(graph, ["--processors", "2"])
-        live = Live(session, "looks")
-        self.addCleanup(live.close)
-        live.execute(lines_for([*lines, {"do": "run", "limit": 40}]))
+        live = live_of(self, session, [*lines, {"do": "run", "limit": 40}])
         live.answer("picture", {"sight": {}})
         session.lines = 0
         for first in (60, 0, 60):
@@ -124,10 +120,7 @@ class Jumps(unittest.TestCase):
         then has few checkpoints."""
         graph, lines = chain(1, 60, 40)
         for count, wanted in ((2, LONG_REACH), (60, SHORT_REACH)):
-            session = Session(graph)
-            live = Live(session, "reach")
-            self.addCleanup(live.close)
-            live.execute(lines_for(lines[:count]))
+            live = live_of(self, Session(graph), lines[:count])
             self.assertEqual(live.answer("picture", {})["picture"]["reach"], wanted)
 
     @needs_browser

@@ -14,9 +14,8 @@ import unittest
 from unittest import mock
 from urllib.parse import urlsplit
 
-from live_tests.served import TOOLS, Served, around, chain, lines_for, of_class, stuck
+from live_tests.served import TOOLS, Served, around, chain, lines_for, live_of, of_class, stuck
 from rewind_tools import runs, tool
-from rewind_tools.live.server import Live
 from rewind_tools.session import Session
 from rewind_tools.testing import TOP, is_alive, programs_of
 
@@ -324,9 +323,7 @@ class Cancelled(unittest.TestCase):
     def test_another_tab(self):
         """A cancel is not lost if another tab asks something before what is cancelled looks for it."""
         graph, fed = map(json.loads, around())
-        live = Live(Session(graph), "tabs")
-        self.addCleanup(live.close)
-        live.execute(lines_for([fed, {"do": "run", "limit": 2}]))
+        live = live_of(self, Session(graph), [fed, {"do": "run", "limit": 2}])
         lines = [{"do": "run", "limit": 3000}, {"do": "jump", "to": 1}, {"do": "run", "limit": 1}]
         for it in lines:
             live.answer("command", {"line": json.dumps(it), "revision": live.revision})
@@ -353,8 +350,7 @@ class Starting(unittest.TestCase):
     def test_progress(self):
         """A long start says how far it is."""
         graph, lines = chain(1, 9, 1)
-        live, said = Live(Session(graph), "progress"), []
-        self.addCleanup(live.close)
+        live, said = live_of(self, Session(graph), []), []
         live.say = said.append
         with mock.patch.object(tool, "BETWEEN", 0):
             live.execute(lines_for([*lines, {"do": "run", "limit": 1200}, *lines * 120]))
