@@ -93,6 +93,27 @@ class Large(unittest.TestCase):
             self.assertLess(page.run(wide), 0.9 * begun)
 
 
+# How far the page goes beyond its window, and the parts of it that are not in sight.
+FITS = """
+const { scrollHeight, clientHeight } = document.documentElement;
+const isIn = (it) => it.getBoundingClientRect().bottom <= window.innerHeight;
+const parts = ["#spacetime", ".graph", "#why .rest", "#candidates li", "#keys", "#tabs"];
+return [scrollHeight - clientHeight, parts.filter((it) => !isIn(document.querySelector(it)))];
+"""
+
+
+@needs_browser
+class Windows(unittest.TestCase):
+    def test_small(self):
+        """In a window of 1280 by 800 all parts are in sight, the keys, too, without scrolling."""
+        with stuck() as live, Page(live) as page:
+            frame = page.run("return window.outerHeight - window.innerHeight")
+            with Page(live, 1280, 800 + frame) as small:
+                small.says("why", "this stays: the token of processor 1")
+                small.says("candidates", "runs the notification of total")
+                self.assertEqual(small.run(FITS), [0, []])
+
+
 @needs_browser
 class Lanes(unittest.TestCase):
     def test_beside_arrows(self):

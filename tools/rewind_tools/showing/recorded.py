@@ -27,8 +27,8 @@ MOST_STEPS, LONGEST, ROWS, MOST_EFFECTS = 10_000, 2000, 400, 1000
 # the program runs for what is left at rest; and what of each there is at the end, where some pages open.
 MOST = {"all": 20_000, "fewer": 20_000, "steps": 500_000}
 AT_END = {"all": 1000, "fewer": 4000, "steps": 20_000}
-# As how many steps one answer about what is left at rest counts at least.
-LEAST_STEPS = 50
+# As how many steps one answer about what is left at rest counts at least, and how many are asked at once.
+LEAST_STEPS, AT_ONCE = 50, 16
 # The words of lines that ask about a point, or wait at one.
 NAMING = ("passed", "why", "notice", "send", "release")
 FOLLOWED = ("error", "code", "at", "kept", "ok", "ran")
@@ -172,9 +172,10 @@ class Copy:
 
     def add_rest(self, questions, answers):
         """Adds what is left at rest to the answers about what is not finished, as far as a page goes."""
-        for question, answer in zip(questions, answers):
-            if answer.get("passed") is False and self.left["steps"] > 0:
-                answer["rest"], ran = self.pictures.rest(question)
+        left = [it for it in zip(questions, answers) if it[1].get("passed") is False]
+        for some in (left[at : at + AT_ONCE] for at in range(0, len(left), AT_ONCE)):
+            told = self.pictures.rests([question for question, _ in some]) if self.left["steps"] > 0 else []
+            for (_, answer), (answer["rest"], ran) in zip(some, told):
                 self.left["steps"] -= max(ran, LEAST_STEPS)
 
 
