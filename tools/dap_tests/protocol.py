@@ -19,43 +19,31 @@ TALK = [
     ("initialize", {"adapterID": "rewind"}, ["initialize: done"]),
     ("launch", {"program": STUCK, "processors": 2}, ["launch: done"]),
     ("setFunctionBreakpoints", {"breakpoints": [{"name": "passed 0 out 0"}, {"name": "view 0 words 0 1"}]},
-     ["initialized", "setFunctionBreakpoints: done"]),
-    ("configurationDone", {}, [
-        "configurationDone: done", f"stderr: {REFUSED.format(7)}",
-        f"stopped in 1, exception: {REFUSED.format(7)}",
-    ]),
-    ("next", THREAD, [
-        "next: done",
-        "stdout: step 12: processor 1 feeds nothing into words and goes on to the next epoch\n"
-        "  processor 1's token of words goes from epoch 0 to 1\n"
-        "  unsent on processor 1 at words (0): from 0 to -1\n"
-        "  unsent on processor 1 at words (1): from 0 to 1",
-        "stopped in 1, step: ",
-    ]),
-    ("continue", THREAD, [
-        "continue: done", f"stderr: {REFUSED.format(11)}", f"stopped in 1, exception: {REFUSED.format(11)}",
-    ]),
-    ("continue", THREAD, [
-        "continue: done", "stdout: 11 lines executed, 2 of them refused; 11 queries left out",
-        "stdout: the script is executed", "stopped in 1, entry: the script is executed",
-    ]),
-    ("continue", THREAD, [
-        "continue: done", "stdout: processor 0 has passed out (0): holds from here on",
-        "stopped in 1, function breakpoint: processor 0 has passed out (0): holds from here on, hit [1]",
-    ]),
+        ["initialized", "setFunctionBreakpoints: done"]),
+    ("configurationDone", {}, ["configurationDone: done", f"stderr: {REFUSED.format(7)}",
+        f"stopped in 1, exception: {REFUSED.format(7)}"]),
+    ("next", THREAD,
+        ["next: done", "stdout: step 12: processor 1 feeds nothing into words and goes on to the next "
+            "epoch\n  processor 1's token of words goes from epoch 0 to 1\n  unsent on processor 1 at words "
+            "(0): from 0 to -1\n  unsent on processor 1 at words (1): from 0 to 1", "stopped in 1, step: "]),
+    ("continue", THREAD, ["continue: done", f"stderr: {REFUSED.format(11)}",
+        f"stopped in 1, exception: {REFUSED.format(11)}"]),
+    ("continue", THREAD,
+        ["continue: done", "stdout: 11 lines executed, 2 of them refused; 11 queries left out",
+            "stdout: the script is executed", "stopped in 1, entry: the script is executed"]),
+    ("continue", THREAD, ["continue: done", "stdout: processor 0 has passed out (0): holds from here on",
+        "stopped in 1, function breakpoint: processor 0 has passed out (0): holds from here on, hit [1]"]),
     ("stepBack", THREAD, ["stepBack: done", "stopped in 1, step: "]),
-    ("reverseContinue", THREAD, [
-        "reverseContinue: done",
+    ("reverseContinue", THREAD, ["reverseContinue: done",
         "stdout: processor 0's view has at least 1 at words (0): ceases to hold from here on",
-        "stopped in 1, function breakpoint: processor 0's view has at least 1 at words (0): ceases to hold"
-        " from here on, hit [2]",
-    ]),
+        "stopped in 1, function breakpoint: processor 0's view has at least 1 at words (0): ceases to hold "
+        "from here on, hit [2]"]),
     ("stepOut", THREAD, ["stepOut: done", "stdout: the end of the kept steps",
-     "stopped in 1, step: the end of the kept steps"]),
+        "stopped in 1, step: the end of the kept steps"]),
     ("next", THREAD, ["next: done", "stderr: nothing is enabled: only a feed, a send or a release is left",
-     "stopped in 1, idle: nothing is enabled: only a feed, a send or a release is left"]),
-    ("restart", {}, ["restart: done", f"stderr: {REFUSED.format(7)}",
-     f"stopped in 1, exception: {REFUSED.format(7)}"]),
+        "stopped in 1, idle: nothing is enabled: only a feed, a send or a release is left"]),
+    ("restart", {},
+        ["restart: done", f"stderr: {REFUSED.format(7)}", f"stopped in 1, exception: {REFUSED.format(7)}"]),
     ("terminate", {}, ["terminate: done", "exited 0", "terminated"]),
     ("disconnect", {}, ["disconnect: done"]),
 ]  # fmt: skip

@@ -3,9 +3,9 @@ import json
 import time
 import unittest
 
-from live_tests.served import Served, around, chain, feed, lines_for, of_class, opening_of, stuck
+from live_tests.served import Served, around, chain, feed, live_of, of_class, opening_of, stuck
 from rewind_tools import runs
-from rewind_tools.live.server import Live
+from rewind_tools.live.turned import Since
 from rewind_tools.session import Session
 
 
@@ -125,6 +125,27 @@ class OfAllSteps(unittest.TestCase):
     def test_exported(self):
         page = self.live.asked("export", {})["page"]
         self.assertTrue(page.startswith("<!DOCTYPE html>") and "recorded" in page, page[:200])
+
+
+class Halving(unittest.TestCase):
+    def test_since(self):
+        """From where on something stays so among 100 steps is found by few questions, and forgotten with the
+        steps."""
+        when = {"finished": {"at": "out", "time": [0]}}
+        for turn in (0, 1, 37, 100, None):
+            since, count = Since(), 0
+            while line := since.next_line(when, 100):
+                since.add(line, {"at_lo": turn is not None and line["lo"] >= turn})
+                count += 1
+            with self.subTest(turn):
+                self.assertLessEqual(count, 8)
+                wanted = {"at_lo": turn == 0, "turns": [turn] if turn else [], "to": 100, "error": None}
+                self.assertEqual(since.about(when, 100), wanted)
+                since.forget_from(20)
+                known = turn in (0, 1)
+                self.assertEqual(since.next_line(when, 20), None)
+                self.assertEqual(since.next_line(when, 30) is None, known)
+                self.assertEqual(since.about(when, 20)["turns"], [1] if turn == 1 else [])
 
 
 class Finishing(unittest.TestCase):
@@ -327,11 +348,8 @@ class Arrows(unittest.TestCase):
         tell."""
         graph, _ = chain(2, 0, 0)
         session = Session(graph, ["--processors", "3"])
-        live = Live(session, "arrows")
-        self.addCleanup(live.close)
-        for at in range(40):
-            live.execute(lines_for([feed([at], p=at % 3), {"do": "broadcast", "p": at % 3}]))
-        live.execute(lines_for([{"do": "run", "limit": 150}]))
+        lines = [it for at in range(40) for it in (feed([at], p=at % 3), {"do": "broadcast", "p": at % 3})]
+        live = live_of(self, session, [*lines, {"do": "run", "limit": 150}])
         waiting, told = {}, []
         for at in range(1, live.kept + 1):
             for sender, receiver, old, new in session.ask({"do": "effect", "to": at})["changed"]["queues"]:

@@ -8,7 +8,7 @@ import time
 import unittest
 
 from live_tests.served import (
-    CHOOSE, POSITION, STUCK, TEXT, Page, Served, ServedBy, Tunnel, around, chain, feed, needs_browser,
+    CHOOSE, POSITION, STUCK, TEXT, WATCH, Page, Served, ServedBy, Tunnel, around, chain, feed, needs_browser,
     opening_of, stuck,
 )  # fmt: skip
 from live_tests.looking import picture
@@ -16,8 +16,8 @@ from rewind_tools import runs
 from rewind_tools.testing import TOP, programs_of
 
 VALUES, FEED = "#feed input", "#feed button"
-LISTED = "return document.getElementById('candidates').getAttribute('aria-busy') === 'false'"
-WARNS = "return document.getElementById('warning').open"
+LISTED = "return document.querySelector('#candidates').getAttribute('aria-busy') === 'false'"
+WARNS = "return document.querySelector('#warning').open"
 # What a screen reader reads of an element: its own name, its label, or its text.
 NAME = """
 const it = document.querySelector(arguments[0]);
@@ -32,22 +32,25 @@ return [...all].filter((it) => !named(it)).map((it) => it.outerHTML);
 """
 # Steps back that wait behind a slow question.
 SLOW_QUESTION = """
-inTurn(() => new Promise((done) => { setTimeout(done, 3000); }));
-for (let at = 0; at < 3; at += 1) source.actions.back();
+it.inTurn(() => new Promise((done) => { setTimeout(done, 3000); }));
+for (let at = 0; at < 3; at += 1) rewind.source.actions.back();
 """
 # Drags over the overview, from one share of it to another.
 BRUSH = """
-const left = by("strip").getBoundingClientRect().left + LEFT;
-const at = (share) => ({ clientX: left + share * plotWidth(), bubbles: true });
-by("strip").dispatchEvent(new PointerEvent("pointerdown", at(arguments[0])));
+const strip = document.getElementById("strip"), left = strip.getBoundingClientRect().left + 92;
+const at = (share) => ({ clientX: left + share * (strip.clientWidth - 104), bubbles: true });
+strip.dispatchEvent(new PointerEvent("pointerdown", at(arguments[0])));
 window.dispatchEvent(new PointerEvent("pointerup", at(arguments[1])));
 """
-# Keeps what the page says of its progress.
-WATCH = """
-window.seen = [];
-const it = by("progress");
-new MutationObserver(() => window.seen.push(it.textContent)).observe(it, { childList: true });
+# Chooses runs by lot.
+BY_LOT = """
+const it = document.getElementById("choice");
+it.selectedIndex = 1;
+it.dispatchEvent(new Event("change"));
 """
+HIDDEN = "return document.querySelector(arguments[0]).hidden"
+# Chooses the kind, the processor and the location of the steps that are looked for, by their numbers.
+FIND = "document.querySelectorAll('#find select').forEach((it, at) => { it.selectedIndex = arguments[at]; })"
 
 
 def steps_of_page():
@@ -288,7 +291,7 @@ class Tabs(unittest.TestCase):
     def test_told_while_busy(self):
         """What another tab does while this one waits for an answer is shown after it."""
         with stuck() as live, Page(live) as page:
-            page.run("inTurn(() => new Promise((done) => { setTimeout(done, 2000); }))")
+            page.run_with("asking", "it.inTurn(() => new Promise((done) => { setTimeout(done, 2000); }))")
             live.command({"do": "back"})
             page.at(10, "the other tab's step")
 
@@ -312,7 +315,7 @@ class Tabs(unittest.TestCase):
             page.says("why", "the token of processor 1")
             page.press("left")
             page.at(10, "a step back")
-            self.assertTrue(page.run("return by('gone').hidden"))
+            self.assertTrue(page.run("return document.querySelector('#gone').hidden"))
 
     def test_server_gone(self):
         """That the server is gone is said at once."""
@@ -321,7 +324,7 @@ class Tabs(unittest.TestCase):
             begun = time.monotonic()
             page.says("gone", "the server is gone")
             self.assertLess(time.monotonic() - begun, 3)
-            self.assertFalse(page.run("return document.getElementById('gone').hidden"))
+            self.assertFalse(page.run("return document.querySelector('#gone').hidden"))
 
     def test_program_gone(self):
         """That the program is gone is said at once, and where the steps are."""
@@ -359,14 +362,14 @@ class Going(unittest.TestCase):
         with Served([json.dumps(it) for it in (graph, *lines)], ["--processors", "2"]) as live:
             with Page(live) as page:
                 page.run(WATCH)
-                page.wait(lambda: page.run("return waiting === 0"), "the first picture")
+                page.wait(page.is_idle, "the first picture")
                 page.fill("#limit", "900000")
                 # (pressed by the page itself, since the browser's driver waits for quick answers)
-                page.run("by('run').click()")
-                page.wait(lambda: page.run("return !by('busy').hidden"), "the busy sign")
-                page.run("by('cancel').click()")
+                page.run("document.querySelector('#run').click()")
+                page.wait(lambda: not page.run(HIDDEN, "#busy"), "the busy sign")
+                page.run("document.querySelector('#cancel').click()")
                 page.says("said", "cancelled: ran")
-                page.wait(lambda: page.run("return by('busy').hidden"), "no busy sign")
+                page.wait(lambda: page.run(HIDDEN, "#busy"), "no busy sign")
                 at = int(page.run(POSITION))
                 self.assertTrue(500 < at < 900500, at)
                 seen = [it for it in page.run("return window.seen") if it.endswith("of 900000 steps")]
@@ -375,11 +378,11 @@ class Going(unittest.TestCase):
     def test_cancel_of_what_waits(self):
         """A cancel is of all that waits behind a question, too."""
         with stuck() as live, Page(live) as page:
-            page.wait(lambda: page.run("return waiting === 0"), "the first picture")
-            page.run(SLOW_QUESTION)
-            page.wait(lambda: page.run("return !by('busy').hidden"), "the busy sign")
+            page.wait(page.is_idle, "the first picture")
+            page.run_with("asking", SLOW_QUESTION)
+            page.wait(lambda: not page.run(HIDDEN, "#busy"), "the busy sign")
             page.click(page.find("#cancel"))
-            page.wait(lambda: page.run("return waiting === 0"), "the end of what waits")
+            page.wait(page.is_idle, "the end of what waits")
             self.assertEqual((page.run(POSITION), live.asked("picture", {})["picture"]["at"]), ("11", 11))
 
     def test_cancelled_question(self):
@@ -387,14 +390,15 @@ class Going(unittest.TestCase):
         with Served(around()) as live, Page(live) as page:
             page.click(page.find(".graph .vertex[data-place='5']"))
             page.says("why", "does not know that z (0) is finished")
-            page.wait(lambda: page.run("return waiting === 0 && chosen.time !== null"), "the answer")
-            page.run("findFinish({ ...question(), limit: 1000000 }, 'fewest')")
-            page.wait(lambda: page.run("return !by('busy').hidden"), "the busy sign")
+            page.wait(lambda: page.is_idle() and page.run("return rewind.state.chosen.time"), "the answer")
+            ask = "it.findFinish({ q: 0, at: 'z', time: [0], limit: 1000000 }, 'fewest')"
+            page.run_with("finishing", ask)
+            page.wait(lambda: not page.run(HIDDEN, "#busy"), "the busy sign")
             picture(page, "asking")
             begun = time.monotonic()
             page.click(page.find("#cancel"))
             page.says("said", "cancelled")
-            page.wait(lambda: page.run("return waiting === 0"), "the end of the question")
+            page.wait(page.is_idle, "the end of the question")
             self.assertLess(time.monotonic() - begun, 3)
             picture(page, "cancelled")
             page.click_text("#why button", "How can this finish?")
@@ -546,7 +550,7 @@ class Finishing(unittest.TestCase):
         """A run in turn goes round in a loop and says so; one by lot takes the seed that is typed."""
         with Served(around()) as live, Page(live) as page:
             page.at(1, "the page")
-            self.assertTrue(page.run("return by('seed').parentElement.hidden"))
+            self.assertTrue(page.run("return document.querySelector('#seed').parentElement.hidden"))
             page.fill("#limit", "200")
             page.click(page.find("#run"))
             said = "a record goes round loop f (0): in the last 200 steps its counter grows from 0 to 99"
@@ -555,8 +559,8 @@ class Finishing(unittest.TestCase):
             page.at(0, "the start")
             page.press("right")
             page.at(1, "the feed")
-            page.run("by('choice').selectedIndex = 1; by('choice').dispatchEvent(new Event('change'))")
-            self.assertFalse(page.run("return by('seed').parentElement.hidden"))
+            page.run(BY_LOT)
+            self.assertFalse(page.run("return document.querySelector('#seed').parentElement.hidden"))
             page.click(page.find("#run"))
             page.wait(lambda: page.run(WARNS), "the warning")
             page.click(page.find("#go-on"))
@@ -581,8 +585,8 @@ class Reading(unittest.TestCase):
             self.assertEqual(page.run(NAME, "#feed select"), "the input")
             self.assertEqual(page.run(NAME, VALUES), "values")
             self.assertIn("processor 0 views", page.run(NAME, "#points td button"))
-            roles = page.run("return ['said', 'why', 'cursor'].map((it) => by(it).getAttribute('role'))")
-            self.assertEqual(set(roles), {"status"})
+            role = "return document.getElementById(arguments[0]).getAttribute('role')"
+            self.assertEqual({page.run(role, it) for it in ("said", "why", "cursor")}, {"status"})
 
     def test_space_and_enter(self):
         for key in ("space", "enter"):
@@ -606,10 +610,10 @@ class Knowing(unittest.TestCase):
 
     def bands(self, page):
         """The colours of the lanes, once all is known."""
-        page.wait(lambda: page.run("return over !== null && over.whole && isAnswered()"), "all lanes")
-        return page.run(
-            "return laneNames().map((_, lane) => bandsOf(lane).map((it) => [it.from, it.to, it.holds]))"
-        )
+        known = "return rewind.state.over.whole && it.isAnswered()"
+        page.wait(lambda: page.run_with("known", known), "all lanes")
+        each = "it.bandsOf(lane).map(({ from, to, holds }) => [from, to, holds])"
+        return page.run_with("known", f"return it.laneNames().map((_, lane) => {each})")
 
     def test_lanes(self):
         """Each lane turns green by the step by which its processor passes the point, never before the truth
@@ -689,7 +693,7 @@ class Knowing(unittest.TestCase):
         """A click on a step with shift: what differs between its position and this one."""
         with stuck() as live, Page(live) as page:
             page.at(11, "the page")
-            page.wait(lambda: page.run("return waiting === 0"), "the first picture")
+            page.wait(page.is_idle, "the first picture")
             page.run(
                 "document.querySelector('#spacetime [data-position=\"1\"]')"
                 ".dispatchEvent(new MouseEvent('click', { shiftKey: true }))"
@@ -707,13 +711,13 @@ class Knowing(unittest.TestCase):
         with stuck() as live, Page(live) as page:
             page.at(11, "the page")
             page.tab("find")
-            page.run("findControls.kind.selectedIndex = 2; findControls.p.selectedIndex = 2")
+            page.run(FIND, 2, 2, 0)
             page.click_text("#find button", "find steps")
             # processor 1 takes 3 by step 4, and 5 by step 8
             page.says("found", "2 steps")
             page.click_text("#found button", "4. processor 1 takes a record of value 3")
             page.at(4, "the step")
-            page.run("findControls.at.selectedIndex = 3; findControls.kind.selectedIndex = 0")
+            page.run(FIND, 0, 2, 3)
             page.click_text("#find button", "find steps")
             page.says("found", "no such step")
 
@@ -726,6 +730,6 @@ class Knowing(unittest.TestCase):
             with open(f"{room}/page.html", "w", encoding="utf-8") as it:
                 it.write(live.asked("export", {})["page"])
             page.open(f"file://{room}/page.html")
-            page.wait(lambda: page.run("return picture && picture.at") == 9, "the position")
-            self.assertEqual(page.run("return picture.kept"), 11)
+            page.wait(lambda: page.run("return window.rewind?.state.picture?.at") == 9, "the position")
+            self.assertEqual(page.run("return rewind.state.picture.kept"), 11)
             page.says("why", "the token of processor 1")

@@ -3,7 +3,8 @@ import json
 import os
 import unittest
 
-from live_tests.served import Page, Served, feed, needs_browser, opening_of, stuck
+from live_tests.served import Page, Served, feed, needs_browser, opening_of, row, stuck
+from rewind_tools import graph_text
 
 # Where pictures of the page go, if anywhere.
 FOLDER = os.environ.get("LIVE_PICTURES")
@@ -48,19 +49,8 @@ def picture(page, name):
 
 def graph_of_58():
     """A graph of 58 locations, with a loop around most of it."""
-    names = [f"v{it}" for it in range(26)]
-    vertices = [
-        {"name": "a", "op": "input", "depth": 0},
-        {"name": "in", "op": "ingress", "depth": 0},
-        *({"name": it, "op": "add", "k": 1, "depth": 1} for it in names),
-        {"name": "around", "op": "feedback", "depth": 1},
-    ]
-    ends = ["a", "in", *names, "around", "v0"]
-    edges = [
-        {"name": f"e{at}", "from": one, "port": 0, "to": two, "route": "exchange"}
-        for at, (one, two) in enumerate(zip(ends, ends[1:]))
-    ]
-    return json.dumps({"vertices": vertices, "edges": edges})
+    names = (f"v{it}(add k=1)" for it in range(26))
+    return json.dumps(graph_text.read([row("a(input)", "in(ingress)", *names, "around(feedback)", "v0")]))
 
 
 @needs_browser
@@ -103,6 +93,27 @@ class Large(unittest.TestCase):
             self.assertLess(page.run(wide), 0.9 * begun)
 
 
+# How far the page goes beyond its window, and the parts of it that are not in sight.
+FITS = """
+const { scrollHeight, clientHeight } = document.documentElement;
+const isIn = (it) => it.getBoundingClientRect().bottom <= window.innerHeight;
+const parts = ["#spacetime", ".graph", "#why .rest", "#candidates li", "#keys", "#tabs"];
+return [scrollHeight - clientHeight, parts.filter((it) => !isIn(document.querySelector(it)))];
+"""
+
+
+@needs_browser
+class Windows(unittest.TestCase):
+    def test_small(self):
+        """In a window of 1280 by 800 all parts are in sight, the keys, too, without scrolling."""
+        with stuck() as live, Page(live) as page:
+            frame = page.run("return window.outerHeight - window.innerHeight")
+            with Page(live, 1280, 800 + frame) as small:
+                small.says("why", "this stays: the token of processor 1")
+                small.says("candidates", "runs the notification of total")
+                self.assertEqual(small.run(FITS), [0, []])
+
+
 @needs_browser
 class Lanes(unittest.TestCase):
     def test_beside_arrows(self):
@@ -119,7 +130,7 @@ class Pictures(unittest.TestCase):
     def test_pictures(self):
         """Takes pictures, if a folder is given for them."""
         for width, is_dark in ((1280, False), (1920, True), (800, False)) if FOLDER else ():
-            with stuck() as live, Page(live, width, 943, is_dark) as page:
+            with stuck() as live, Page(live, width, 943 if width > 1000 else 1400, is_dark) as page:
                 page.click_text("#candidates button", "runs the notification of total")
                 page.says("why", "finished")
                 picture(page, f"stuck-{width}-{'dark' if is_dark else 'light'}")

@@ -4,8 +4,8 @@ import time
 import unittest
 
 from live_tests import IS_PROVED
-from live_tests.served import TEXT, Page, Served, chain, feed, lines_for, needs_browser
-from rewind_tools.live.server import LONG_REACH, SHORT_REACH, Live
+from live_tests.served import WATCH, Page, Served, chain, feed, live_of, needs_browser
+from rewind_tools.live.server import LONG_REACH, SHORT_REACH
 from rewind_tools.session import Session
 
 # Presses a key, or clicks a step. Returns, once the answer is drawn, the milliseconds that this took, the
@@ -17,22 +17,30 @@ performance.clearResourceTimings();
 const isStep = (it) => it.textContent.startsWith(`${what}. `);
 if (key) document.dispatchEvent(new KeyboardEvent("keydown", { key }));
 else [...document.querySelectorAll("#spacetime .step")].find(isStep).dispatchEvent(new MouseEvent("click"));
-const settle = () => busy.then(() => (waiting ? settle() : undefined));
-return settle().then(() => new Promise((done) => requestAnimationFrame(() => setTimeout(done)))).then(() => {
+const look = (done) => setTimeout(() => (rewind.state.waiting ? look(done) : done()));
+const draw = (done) => requestAnimationFrame(() => setTimeout(done));
+return new Promise(look).then(() => new Promise(draw)).then(() => {
   const all = performance.getEntriesByType("resource"), taken = performance.now() - begun;
   const answers = all.filter((it) => !it.name.endsWith("overview"));
   const sent = answers.reduce((sum, it) => sum + it.encodedBodySize, 0);
   return [taken, answers.length, sent, document.querySelectorAll("*").length];
 });
 """
+# Keeps what the page says of its cursor, with the position of the picture then.
+WATCH_CURSOR = """
+window.seen = [];
+const it = document.getElementById("cursor");
+const see = () => window.seen.push([it.textContent, rewind.state.picture.at]);
+new MutationObserver(see).observe(it, { childList: true });
+"""
 # Presses a key many times, without waiting: the bytes of the answers.
 HELD = """
 performance.clearResourceTimings();
 const press = () => document.dispatchEvent(new KeyboardEvent("keydown", { key: "ArrowLeft" }));
 for (let at = 0; at < arguments[0]; at += 1) press();
-const settle = () => busy.then(() => (waiting ? settle() : undefined));
+const look = (done) => setTimeout(() => (rewind.state.waiting ? look(done) : done()));
 const asked = () => performance.getEntriesByType("resource").filter((it) => !it.name.endsWith("overview"));
-return settle().then(() => asked().map((it) => it.encodedBodySize));
+return new Promise(look).then(() => asked().map((it) => it.encodedBodySize));
 """
 # The length of the graph, the feeds, the values of each, and the steps of the run after them.
 SCRIPTS = [(9, 60, 20, 9940), (9, 570, 20, 100000)] if IS_PROVED else [(2, 50, 6, 250)]
@@ -65,9 +73,7 @@ class InSight(unittest.TestCase):
         steps; a point is asked about."""
         graph, lines = chain(2, feeds, 6)
         session = Counting(graph, ["--processors", "2"])
-        live = Live(session, "clicks")
-        self.addCleanup(live.close)
-        live.execute(lines_for([*lines, {"do": "run", "limit": steps}]))
+        live = live_of(self, session, [*lines, {"do": "run", "limit": steps}])
         sight = {"why": {"q": 0, "at": "v1", "time": [0]}}
         live.answer("picture", {"sight": sight})
         middle, most = live.kept // 2, {}
@@ -100,9 +106,7 @@ class InSight(unittest.TestCase):
         """Looks at other parts of what is shown ask for the state once."""
         graph, lines = chain(2, 50, 6)
         session = Counting(graph, ["--processors", "2"])
-        live = Live(session, "looks")
-        self.addCleanup(live.close)
-        live.execute(lines_for([*lines, {"do": "run", "limit": 40}]))
+        live = live_of(self, session, [*lines, {"do": "run", "limit": 40}])
         live.answer("picture", {"sight": {}})
         session.lines = 0
         for first in (60, 0, 60):
@@ -116,10 +120,7 @@ class Jumps(unittest.TestCase):
         then has few checkpoints."""
         graph, lines = chain(1, 60, 40)
         for count, wanted in ((2, LONG_REACH), (60, SHORT_REACH)):
-            session = Session(graph)
-            live = Live(session, "reach")
-            self.addCleanup(live.close)
-            live.execute(lines_for(lines[:count]))
+            live = live_of(self, Session(graph), lines[:count])
             self.assertEqual(live.answer("picture", {})["picture"]["reach"], wanted)
 
     @needs_browser
@@ -129,9 +130,10 @@ class Jumps(unittest.TestCase):
         with kept_steps(2, 50, 6, 250) as live, Page(live) as page:
             page.run(CLICK, "End", None)
             kept = int(page.run("return document.body.dataset.kept"))
-            page.run("window.seen = []; window.progress = (text) => window.seen.push(text)")
+            page.run(WATCH)
             for to, is_in_pieces in ((kept - 90, True), (0, False), (kept, True), (120, True), (9, False)):
-                page.run("picture.reach = 30; window.seen.length = 0; jump(arguments[0])", to)
+                page.run("rewind.state.picture.reach = 30; window.seen.length = 0")
+                page.run_with("commands", "it.jump(arguments[0])", to)
                 page.at(to, f"position {to}")
                 seen = [it for it in page.run("return window.seen") if it.endswith(f"on the way to {to}")]
                 self.assertEqual(bool(seen), is_in_pieces, [to, seen])
@@ -179,14 +181,12 @@ class Kept(unittest.TestCase):
         """If pictures take long, where a click leads is shown before the picture."""
         with kept_steps(2, 50, 6, 250) as live, Page(live) as page:
             page.run(CLICK, "End", None)
-            page.run(
-                "isSlow = true; window.seen = []; const shown = show; window.show = () =>"
-                " { window.seen.push(by('cursor').textContent); shown(); }"
-            )
-            before = page.run(TEXT, "cursor")
+            page.run("rewind.state.isSlow = true")
+            page.run(WATCH_CURSOR)
+            kept = page.run("return rewind.state.picture.kept")
             _, count, _, _ = page.run(CLICK, "Home", None)
             self.assertEqual(count, 3)
-            self.assertEqual(page.run("return window.seen"), [f"position 0 {before.split(' ', 2)[2]}"])
+            self.assertEqual(page.run("return window.seen[0]"), [f"position 0 of {kept}", kept])
 
     @needs_browser
     def test_key_held_down(self):

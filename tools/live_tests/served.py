@@ -15,7 +15,8 @@ import urllib.error
 import urllib.request
 from urllib.parse import urlsplit
 
-from rewind_tools import browser, opening
+from rewind_tools import browser, graph_text, opening
+from rewind_tools.live.server import Live
 from rewind_tools.testing import TOP
 
 TOOLS = f"{TOP}/tools"
@@ -27,6 +28,12 @@ CHOOSE = """
 const it = document.querySelectorAll("#feed select")[arguments[0]];
 it.selectedIndex = [...it.options].findIndex((option) => option.textContent === arguments[1]);
 it.dispatchEvent(new Event("change"));
+"""
+# Keeps what the page says of its progress.
+WATCH = """
+window.seen = [];
+const it = document.getElementById("progress");
+new MutationObserver(() => window.seen.push(it.textContent)).observe(it, { childList: true });
 """
 needs_browser = unittest.skipUnless(
     browser.is_there(), "no chromium and chromedriver on the PATH for the page"
@@ -123,34 +130,31 @@ def feed(values, **more):
     return {"do": "feed", "p": 0, "vertex": "a", "values": values, "next": "next", **more}
 
 
+def row(*vertices):
+    """A path of vertices one after the other, along exchange edges e0, e1 and so on."""
+    edges = [f" --exchange [e{at}]--> {it}" for at, it in enumerate(vertices[1:])]
+    return "".join([vertices[0], *edges])
+
+
 def chain(length, feeds, values):
     """A graph with an input and some vertices in a row, and feeds of `values` values."""
-    names = [f"v{it}" for it in range(length)]
-    vertices = [
-        {"name": "a", "op": "input", "depth": 0},
-        *({"name": it, "op": "add", "k": 1, "depth": 0} for it in names),
-    ]
-    ends = ["a", *names]
-    edges = [
-        {"name": f"e{at}", "from": one, "port": 0, "to": two, "route": "exchange"}
-        for at, (one, two) in enumerate(zip(ends, ends[1:]))
-    ]
-    return {"vertices": vertices, "edges": edges}, [feed([*range(at, at + values)]) for at in range(feeds)]
+    graph = graph_text.read([row("a(input)", *(f"v{it}(add k=1)" for it in range(length)))])
+    return graph, [feed([*range(at, at + values)]) for at in range(feeds)]
 
 
 def around():
     """The lines of a graph with a loop in which a record of one input goes round for ever."""
-    vertices = [
-        {"name": "a", "op": "input", "depth": 0},
-        {"name": "i", "op": "ingress", "depth": 0},
-        {"name": "m", "op": "add", "k": 0, "depth": 1},
-        {"name": "f", "op": "feedback", "depth": 1},
-        {"name": "e", "op": "egress", "depth": 1},
-        {"name": "z", "op": "sink", "depth": 0},
-    ]
-    ends = ("ai", "im", "mf", "fm", "me", "ez")
-    edges = [{"name": it, "from": it[0], "port": 0, "to": it[1], "route": "local"} for it in ends]
-    return [json.dumps({"vertices": vertices, "edges": edges}), json.dumps(feed([1], next="close"))]
+    there = "a(input) --[ai]--> i(ingress) --[im]--> m(add k=0) --[mf]--> f(feedback) --[fm]--> m"
+    graph = graph_text.read([there, "m --[me]--> e(egress) --[ez]--> z(sink)"])
+    return [json.dumps(graph), json.dumps(feed([1], next="close"))]
+
+
+def live_of(test, session, lines):
+    """A live session that has executed some commands, until the test ends."""
+    live = Live(session, "test")
+    test.addCleanup(live.close)
+    live.execute(lines_for(lines))
+    return live
 
 
 class Tunnel(socketserver.ThreadingTCPServer):
@@ -201,6 +205,14 @@ class Page(browser.Browser):
             self.__exit__()
             raise
         return self
+
+    def run_with(self, module, script, *args):
+        """Runs a script that has a module of the page as `it`."""
+        load = f"const it = await import(new URL('{module}.js', location.href));"
+        return self.run(f"return (async () => {{ {load} {script} }})()", *args)
+
+    def is_idle(self):
+        return self.run("return rewind.state.waiting === 0")
 
     def at(self, position, what):
         """Waits until the page is at a position."""

@@ -14,9 +14,8 @@ import unittest
 from unittest import mock
 from urllib.parse import urlsplit
 
-from live_tests.served import TOOLS, Served, around, chain, lines_for, of_class, stuck
+from live_tests.served import TOOLS, Served, around, chain, lines_for, live_of, of_class, stuck
 from rewind_tools import runs, tool
-from rewind_tools.live.server import Live
 from rewind_tools.session import Session
 from rewind_tools.testing import TOP, is_alive, programs_of
 
@@ -65,13 +64,13 @@ class Requests(unittest.TestCase):
     def test_page(self):
         status, headers, page = self.live.get()
         self.assertEqual(status, 200)
-        self.assertIn('<script src="live.js">', page)
+        self.assertIn('<script type="module" src="live.js">', page)
         policy = headers["Content-Security-Policy"]
         self.assertTrue("default-src 'none'" in policy and "unsafe" not in policy, policy)
         self.assertLess(self.live.seconds, 5)
 
     def test_files(self):
-        for name in ("page.css", "base.js", "live.js"):
+        for name in ("page.css", "store.js", "live.js"):
             self.assertEqual(self.live.get(name)[0], 200)
         self.assertEqual(self.live.get("server.py")[0], 404)
         self.assertIn(self.live.get("../session.py")[0], (403, 404))
@@ -320,12 +319,38 @@ class Killed(unittest.TestCase):
             self.assertIn("words", live.asked("fewest", {**ASK, "limit": 5}))
 
 
+class Cancelled(unittest.TestCase):
+    def test_another_tab(self):
+        """A cancel is not lost if another tab asks something before what is cancelled looks for it."""
+        graph, fed = map(json.loads, around())
+        live = live_of(self, Session(graph), [fed, {"do": "run", "limit": 2}])
+        lines = [{"do": "run", "limit": 3000}, {"do": "jump", "to": 1}, {"do": "run", "limit": 1}]
+        for it in lines:
+            live.answer("command", {"line": json.dumps(it), "revision": live.revision})
+
+        def ask(path):
+            with contextlib.suppress(KeyError):
+                live.answer(path, {})
+
+        def between(text):
+            """Between two pieces: the cancel of one tab, and a question of another, a faulty one."""
+            live.journal.report = lambda text: None
+            for path in ("cancel", "state"):
+                tab = threading.Thread(target=ask, args=[path])
+                tab.start()
+                tab.join()
+
+        live.journal.report = between
+        for wanted in ("stopped at 3 of 3003 steps; the same again goes on", "brought back: 3003 steps"):
+            told = live.answer("bring-back", {"revision": live.revision})
+            self.assertTrue(told["words"][0].startswith(wanted), told)
+
+
 class Starting(unittest.TestCase):
     def test_progress(self):
         """A long start says how far it is."""
         graph, lines = chain(1, 9, 1)
-        live, said = Live(Session(graph), "progress"), []
-        self.addCleanup(live.close)
+        live, said = live_of(self, Session(graph), []), []
         live.say = said.append
         with mock.patch.object(tool, "BETWEEN", 0):
             live.execute(lines_for([*lines, {"do": "run", "limit": 1200}, *lines * 120]))

@@ -19,8 +19,9 @@ from rewind_tools.telling.reasons import rest_words
 # whether a run goes round, and from how many rounds on it does.
 STATES, MOST_STATES = 1000, 1_000_000
 LOOKED_BACK, ROUNDS = 300, 3
-# How many lines a way has at most; with which seeds a run by lot is tried, and how long it is.
-MOST_LINES, SEEDS, LOT = 1000, (1, 2, 3), 2000
+# How many lines a way has at most; with which seeds a run by lot is tried, how long it is, and how many
+# candidates it lists about: all of them before each step.
+MOST_LINES, SEEDS, LOT, MOST_LISTED = 1000, (1, 2, 3), 2000, 2_000_000
 FINISHED = "it is finished already"
 NOT_MOVES = "feeds with values, sends and moves of capabilities are not among the steps that are tried"
 # What each kind of step is.
@@ -129,12 +130,22 @@ def run_until(ask, graph, query, run):
 def by_lot(ask, graph, query):
     """A run by lot that leads to the point's end, where the run in turn does not come to rest; None if none
     is found."""
+    limit = steps_by_lot(ask)
     here = ask({"do": "run", "limit": 1})["at"] - 1
     for seed in SEEDS:
         ask({"do": "jump", "to": here})
-        if found := run_until(ask, graph, query, {"do": "run", "limit": LOT, "seed": seed}):
+        if found := run_until(ask, graph, query, {"do": "run", "limit": limit, "seed": seed}):
             return found
     return None
+
+
+def steps_by_lot(ask):
+    """How many steps a run by lot has: the fewer, the more candidates there are."""
+    if "more" not in ask({"do": "candidates"}):
+        return LOT
+    of_each = ask({"do": "state"})["state"]["processors"]
+    listed = sum(len(it["records"]) + len(it["requests"]) for it in of_each)
+    return max(1, min(LOT, MOST_LISTED // max(1, listed)))
 
 
 def line_words(line, is_first):

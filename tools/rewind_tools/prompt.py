@@ -6,6 +6,7 @@ import cmd
 import difflib
 import json
 import os
+import shlex
 import signal
 
 from rewind_tools import completing, finishing, graph_text, opening
@@ -203,7 +204,7 @@ class Prompt(cmd.Cmd, Debugger):
             return self.execute_way()
         when = line_of(["break", *words_of_line(rest)], said="finish")["when"]
         if when.keys() != {"passed"}:
-            raise NotTyped("finish takes a time that a processor is to pass, as: finish passed 0 out 0")
+            raise NotTyped(f"finish takes a time that a processor is to pass, as: {self.finish_example()}")
         query, graph = {"do": "why", **when["passed"]}, self.teller.graph
         now = self.session.ask(query)
         if now.get("passed") is not False:
@@ -218,11 +219,19 @@ class Prompt(cmd.Cmd, Debugger):
         alone = "'finish' alone executes these steps; " if self.way else ""
         return self.say(f"{alone}'reach {rest} feed release' looks for the fewest steps")
 
+    def finish_example(self):
+        """What asks of a vertex of this graph how its first time can finish: of a sink, if there is one."""
+        vertices = sorted(self.teller.graph.vertices.values(), key=lambda it: it["op"] == "sink")
+        if not vertices:
+            return "finish passed P LOCATION TIME"
+        name, depth = shlex.quote(vertices[-1]["name"]), vertices[-1]["depth"]
+        return f"finish passed 0 {name} {','.join('0' * (depth + 1))}"
+
     def execute_way(self):
         """Executes the lines that 'finish' has said last, if it was about this position."""
         lines, *place = self.way or [None, None, None]
         if place != [self.at, self.journal.changes]:
-            raise NotTyped("no way to finish is known here; 'finish passed 0 out 0' looks for one")
+            raise NotTyped(f"no way to finish is known here; '{self.finish_example()}' looks for one")
         for it in lines:
             before = self.at
             self.ask(it)

@@ -10,8 +10,10 @@ and the question ends at once when it is stopped.
     second.stop()                       kills the program, from any thread
 
 The program starts with the first question, and is brought to the steps that a question is about: by those
-that it lacks alone. After a stop it begins anew."""
+that it lacks alone. After a stop it begins anew. Each second it is reported how long an answer takes."""
 import bisect
+import contextlib
+import itertools
 import threading
 
 from rewind_tools.at_rest import MOST
@@ -20,6 +22,8 @@ from rewind_tools.session import Ended, Session
 
 # Over how many positions or steps a question may go that does not take long.
 FEW = 2000
+# How many seconds lie between two reports.
+BETWEEN = 1
 
 
 def is_long(value):
@@ -29,6 +33,26 @@ def is_long(value):
         return type(lo) is int and type(hi) is int and hi - lo > FEW
     rest = value.get("rest", 0)
     return value.get("do") == "reach" or type(rest) is int and rest > FEW
+
+
+@contextlib.contextmanager
+def reporting(report):
+    """Reports for how long something goes on."""
+    is_over = threading.Event()
+
+    def tick():
+        for seconds in itertools.count(BETWEEN, BETWEEN):
+            if is_over.wait(BETWEEN):
+                return
+            report(f"working for {seconds} s")
+
+    ticking = threading.Thread(target=tick, daemon=True)
+    ticking.start()
+    try:
+        yield
+    finally:
+        is_over.set()
+        ticking.join()
 
 
 class Second:
@@ -67,12 +91,15 @@ class Second:
     def with_program(self, work, entries, at, hi=0):
         """What some work returns at a position among steps, with those up to another one kept, too."""
         with self.lock:
-            self.is_stopped = not self.journal.may_go_on()
+            self.is_stopped = False
+            if not self.journal.may_go_on():  # asked after that, so that no stop is lost between the two
+                self.is_stopped = True
             try:
                 self.bring(entries, max(at, hi))
                 self.session.ask({"do": "jump", "to": at})
                 self.report("working")
-                return work(self.session.ask)
+                with reporting(self.report):
+                    return work(self.session.ask)
             except Ended as fault:
                 self.close()
                 raise Stopped("cancelled" if self.is_stopped else f"no answer: {fault}") from fault

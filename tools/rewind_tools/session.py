@@ -6,6 +6,7 @@
     session.ask({"do": "candidates"})   the reply to a line; Ended, if the program has ended
     session.ask_all([..])               the replies to many lines, which are written while replies are read
     session.ask_lines([b"..", ..])      the same of lines given as bytes, the replies as bytes, too
+    session.ask_pieces([[b"..", ..]])   the replies to many lists of lines, as the program gives them
     session.close()
 
 The program is ./rewind, or what REWIND_PROGRAM names in the environment. It runs in a session of its own, so
@@ -17,6 +18,7 @@ import ctypes
 import itertools
 import json
 import os
+import queue
 import signal
 import subprocess
 import tempfile
@@ -96,7 +98,7 @@ class Session:
     def ask_lines(self, texts):
         """The same, each reply as the line that it is."""
         texts = texts if not self.names.short else [self.names.given(it) for it in texts]
-        text = b"".join(it + b"\n" for it in texts)
+        text = b"\n".join([*texts, b""])
         if len(text) <= PIPE_BYTES:
             self.write(text)
             return self.read(len(texts))
@@ -105,6 +107,22 @@ class Session:
         replies = self.read(len(texts))
         writer.join()
         return replies
+
+    def ask_pieces(self, pieces):
+        """The replies to lists of lines, a list for each; all lines are written while replies are read."""
+        counts = queue.SimpleQueue()
+        writer = threading.Thread(target=self.write_pieces, args=[pieces, counts], daemon=True)
+        writer.start()
+        while count := counts.get():
+            yield self.read(count)
+        writer.join()
+
+    def write_pieces(self, pieces, counts):
+        for texts in pieces:
+            texts = texts if not self.names.short else [self.names.given(it) for it in texts]
+            counts.put(len(texts))
+            self.write(b"\n".join(texts) + b"\n")
+        counts.put(0)
 
     def write(self, text):
         try:

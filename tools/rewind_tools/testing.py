@@ -8,6 +8,7 @@ environment, or else the one that is proved and built: so this module is importe
 import argparse
 import contextlib
 import fcntl
+import json
 import os
 import pty
 import re
@@ -31,22 +32,23 @@ PROGRAM = os.environ.setdefault("REWIND_PROGRAM", BUILT)
 # Where the tools keep files of sessions, in place of the person's own folder.
 STATE = tempfile.TemporaryDirectory(prefix="rewind-state-")
 os.environ["XDG_STATE_HOME"] = STATE.name
+from rewind_tools import graph_text
 # A signal that is ignored, as in the background, would be ignored by what a test starts, too; one that has a
 # handler is not.
 for number in (signal.SIGINT, signal.SIGHUP):
     if signal.getsignal(number) == signal.SIG_IGN:
         signal.signal(number, lambda *_: None)
-SECONDS = 60
-CTRL_C = "\x03"
-# A graph on which a record of input a goes round a loop for ever.
-ROUND = (
-    '{"vertices":[{"name":"a","op":"input","depth":0},{"name":"in","op":"ingress","depth":0},'
-    '{"name":"again","op":"below","depth":1,"k":9},{"name":"next","op":"feedback","depth":1}],'
-    '"edges":[{"name":"a-in","from":"a","port":0,"to":"in","route":"local"},'
-    '{"name":"in-again","from":"in","port":0,"to":"again","route":"local"},'
-    '{"name":"again-next","from":"again","port":0,"to":"next","route":"local"},'
-    '{"name":"next-again","from":"next","port":0,"to":"again","route":"local"}]}'
-)
+SECONDS, CTRL_C = 60, "\x03"
+
+
+def graph_line(*paths):
+    """The line of a graph that is written as paths."""
+    return json.dumps(graph_text.read(paths), separators=(",", ":"))
+
+
+# A graph from an input to a sink, and one on which a record of input a goes round a loop for ever.
+LINE = graph_line("a(input) --[az]--> z(sink)")
+ROUND = graph_line("a(input) --> in(ingress) --> again(below k=9) --> next(feedback) --> again")
 
 
 class Counting(unittest.TestResult):
@@ -102,6 +104,36 @@ def run(name, needs_program=True, flags=()):
         print(f"{name}/{test}: {trace[-3000:]}")
     print(f"{name}: {result.passed} passed, {len(failed)} failed")
     sys.exit(1 if failed else 0)
+
+
+def ended(command, stdin=b"", seconds=300, **how):
+    """How a command ended, which reads bytes or an open file: its status, and what it wrote to standard
+    output and error; or what kept it from an end."""
+    with tempfile.TemporaryFile() as file:
+        if isinstance(stdin, bytes):
+            file.write(stdin)
+            file.seek(0)
+        how = {"stdin": file if isinstance(stdin, bytes) else stdin, "timeout": seconds, **how}
+        try:
+            ran = subprocess.run(command, **{"stdout": subprocess.PIPE, "stderr": subprocess.PIPE, **how})
+        except (subprocess.SubprocessError, OSError) as none:
+            return type(none).__name__, b"", b""
+    return ran.returncode, ran.stdout, ran.stderr
+
+
+def program(*words, **how):
+    """How the program ended."""
+    return ended(["rewind", *words], executable=PROGRAM, **how)
+
+
+def put_program(room, text, end=f"exec -a rewind '{PROGRAM}' \"$@\""):
+    """Writes a program of bash to a folder, at whose end it is the program that is tested; returns its
+    path."""
+    path = os.path.join(room, "program")
+    with open(path, "w", encoding="utf-8") as it:
+        it.write(f"#!/bin/bash\n{text}\n{end}\n")
+    os.chmod(path, 0o755)
+    return path
 
 
 def programs_of(pid):

@@ -1,39 +1,51 @@
-"""A wide layout in rows, as text is wrapped: an edge that leaves a row at one side goes on at the other side
-of the next row or the row before, at the same height.
+"""A wide layout in rows, as a ribbon is folded: each second row is turned by half a turn, so an edge that
+comes to the end of a row goes on round the fold into the row below.
 
-    wrapped(drawn, nodes, labels, 1400)      the sizes of nodes and labels, and how wide a row may be
+    folded(drawn, nodes, labels, 1400, loops)      the sizes of nodes and labels, how wide a row may be, and
+                                                   the left and right ends of loops
 
-A row ends between two boxes, and in none of those that are to stay whole. Each edge has a list of curves,
-one for each row that it passes, and notes: where its name stands in rows that it passes without its
-label."""
+A row ends between two boxes, in no loop that fits into a row, and in as few others as can be. Each edge is
+one curve."""
 from typing import NamedTuple
 
-ROW_GAP = 20
+ROW_GAP = 24
 BISECTIONS = 40
-# The shortest curve that has a name beside it, and where the name stands.
-LEAST_NOTED, NOTE_RIGHT, NOTE_BELOW = 150, 4, 12
+# How far the innermost edge of a fold is from the rows and the next from that, and how round they are.
+FOLD, BESIDE, CORNER = 10, 9, 8
 
 
-class Wrapped(NamedTuple):
+class Folded(NamedTuple):
+    """The layout in rows. `boxes` has the boxes of each edge's parts in rows, `folds` those round the folds,
+    each with the number of its fold; `bands` is where each row begins and ends."""
+
     width: float
     height: float
     nodes: dict
     labels: dict
     curves: dict
-    notes: dict
+    boxes: dict
+    folds: dict
     bands: list
 
 
 class Row(NamedTuple):
-    """A part of the layout from one x to another, and how far it is moved."""
+    """A part of the layout, by its left, right, top and bottom; where its top is in the rows, and where they
+    begin and end."""
 
     begin: float
     end: float
-    dx: float
-    dy: float
+    top: float
+    low: float
+    y: float
+    ends: tuple
+    is_turned: bool
 
     def move(self, point):
-        return round(point[0] + self.dx, 1), round(point[1] + self.dy, 1)
+        x, y = point
+        left, right = self.ends
+        if self.is_turned:
+            return round(right - (x - self.begin), 1), round(self.y + self.low - y, 1)
+        return round(left + x - self.begin, 1), round(self.y + y - self.top, 1)
 
 
 def boxes_of(drawn, nodes, labels):
@@ -43,19 +55,27 @@ def boxes_of(drawn, nodes, labels):
     return [(x - w / 2, x + w / 2, y - h / 2, y + h / 2) for (x, y), (w, h) in placed]
 
 
-def cuts_of(boxes, width):
-    """Where rows end: between boxes, each row as wide as it may be."""
+def around(points):
+    """The box around points, as its left, top, right and bottom."""
+    xs, ys = zip(*points)
+    return min(xs), min(ys), max(xs), max(ys)
+
+
+def cuts_of(boxes, width, loops):
+    """Where rows end: between boxes, in the second half of what fits into a row."""
     free, right = [], None
-    for low, high, *_ in sorted(boxes):
+    for low, high in sorted([it[:2] for it in boxes] + [it for it in loops if it[1] - it[0] <= width]):
         if right is not None and low > right:
             free.append((low + right) / 2)
         right = high if right is None else max(right, high)
     cuts, begin = [], 0.0
-    for at, it in enumerate(free):
-        after = free[at + 1] if at + 1 < len(free) else right
-        if after - begin > width:
-            cuts.append(it)
-            begin = it
+    while right - begin > width:
+        there = [it for it in free if begin < it <= begin + width] or [it for it in free if it > begin][:1]
+        if not there:
+            break
+        far = [it for it in there if it - begin > width / 2] or there[-1:]
+        begin = min(far, key=lambda cut: (sum(a < cut < b for a, b in loops), -cut))
+        cuts.append(begin)
     return cuts
 
 
@@ -97,60 +117,86 @@ def pieces_of(points, cuts):
     return found
 
 
-def rows_of(cuts, boxes, pieces, width):
-    """The rows: each below the one before, moved to the left; and where each begins and ends."""
-    ends = [0.0, *cuts, width]
-    rows, bands, bottom = [], [], 0.0
-    for at, (begin, end) in enumerate(zip(ends, ends[1:])):
+def crossings(pieces):
+    """The edges that cross each cut: the cut's number, how high the edge crosses it, the edge and the number
+    of its piece before that."""
+    return [
+        (min(one[0], other[0]), one[1][-1][1], name, at)
+        for name, found in pieces.items()
+        for at, (one, other) in enumerate(zip(found, found[1:]))
+    ]
+
+
+def levels_of(crossed):
+    """How far out each edge goes round each fold: the lowest one of the upper row the least."""
+    levels, counts = {}, {}
+    for cut, _, *key in sorted(crossed, key=lambda it: (it[0], it[1] * (1 if it[0] % 2 else -1))):
+        counts[cut] = counts.get(cut, 0) + 1
+        levels[tuple(key)] = FOLD + BESIDE * counts[cut]
+    return levels
+
+
+def rows_of(cuts, boxes, pieces, width, left):
+    """The rows, each below the one before, with room for the folds on their left."""
+    begins, rows, y = [0.0, *cuts, width], [], 0.0
+    wide = max(end - begin for begin, end in zip(begins, begins[1:]))
+    for at, (begin, end) in enumerate(zip(begins, begins[1:])):
         heights = [y for it in boxes if begin <= (it[0] + it[1]) / 2 < end for y in it[2:]]
         heights += [y for row, points in pieces if row == at for _, y in points]
         top, low = min(heights, default=0.0), max(heights, default=0.0)
-        rows.append(Row(begin, end, -begin, bottom - top))
-        bands.append((bottom, bottom + low - top))
-        bottom += low - top + ROW_GAP
-    return rows, bands
+        rows.append(Row(begin, end, top, low, y, (left, left + wide), at % 2 == 1))
+        y += low - top + ROW_GAP
+    return rows
 
 
-def level_start(points):
-    """Where the first level part of a curve begins at the left; the curve's left end if it has none."""
-    ends = sorted(points[::3])
-    level = [one for one, other in zip(ends, ends[1:]) if other[0] - one[0] > 60 and one[1] == other[1]]
-    return (level or ends)[0]
+def bend(one, other, x):
+    """The points of a fold after its first one: along the row, round at x, and along the row below."""
+    side, corner = (1 if x > one[0] else -1), min(CORNER, abs(other[1] - one[1]) / 2)
+    begin, down = (x - side * corner, one[1]), (x, one[1] + corner)
+    up, end = (x, other[1] - corner), (x - side * corner, other[1])
+    turns = ((one, begin), ((x, one[1]),) * 2, (down, up), ((x, other[1]),) * 2, (end, other))
+    return [it for pair, last in zip(turns, (begin, down, up, end, other)) for it in (*pair, last)]
 
 
-def notes_of(found, rows, label_row):
-    """Where the name of an edge stands in the rows that it passes without its label."""
-    notes = []
-    for at, points in found:
-        if at != label_row and abs(points[0][0] - points[-1][0]) >= LEAST_NOTED:
-            x, y = rows[at].move(level_start(points))
-            notes.append((round(x + NOTE_RIGHT, 1), round(y + NOTE_BELOW, 1)))
-    return notes
+class Edge:
+    """An edge's curve through the rows, the boxes of its parts in rows, and those round the folds."""
+
+    def __init__(self, name, found, rows, levels):
+        moved = [[rows[row].move(it) for it in points] for row, points in found]
+        self.curve, self.boxes, self.folds = moved[0], [around(it) for it in moved], []
+        for at, points in enumerate(moved[1:]):
+            row, next_ = found[at][0], found[at + 1][0]
+            cut, way = min(row, next_), 1 if row < next_ else -1
+            end, out = rows[0].ends[1 - cut % 2], levels[name, at]
+            x = end - out if cut % 2 else end + out
+            ends = (self.curve[-1], points[0])[::way]
+            turn = [ends[0], *bend(*ends, x)][::way]
+            self.boxes.append(around([ends[0], (end, ends[0][1])]))
+            self.folds.append((cut, around([(end, ends[0][1]), (x, ends[1][1])])))
+            self.curve = [*self.curve, *turn[1:], *points[1:]]
 
 
-def wrapped(drawn, nodes, labels, width, whole=()):
+def folded(drawn, nodes, labels, width, loops=()):
     """The layout in rows; in one row, if it is not too wide."""
     boxes = boxes_of(drawn, nodes, labels)
-    cuts = cuts_of([*boxes, *whole], width) if drawn.width > width else []
-    if not cuts:
-        curves = {it: [points] for it, points in drawn.paths.items()}
-        bands = [(0.0, drawn.height)]
-        return Wrapped(drawn.width, drawn.height, drawn.nodes, drawn.labels, curves, {}, bands)
+    cuts = cuts_of(boxes, width, loops) if drawn.width > width else []
     pieces = {it: pieces_of(points, cuts) for it, points in drawn.paths.items()}
-    rows, bands = rows_of(cuts, boxes, [it for found in pieces.values() for it in found], drawn.width)
-
-    def row_of(point):
-        return sum(cut <= point[0] for cut in cuts)
+    crossed = crossings(pieces)
+    levels = levels_of(crossed)
+    room = [max([0.0, *(levels[tuple(it[2:])] for it in crossed if it[0] % 2 == odd)]) for odd in (0, 1)]
+    rows = rows_of(cuts, boxes, [it for found in pieces.values() for it in found], drawn.width, room[1])
+    edges = {it: Edge(it, found, rows, levels) for it, found in pieces.items()}
 
     def moved(point):
-        return rows[row_of(point)].move(point)
+        return rows[sum(cut <= point[0] for cut in cuts)].move(point)
 
-    return Wrapped(
-        round(max(it.end - it.begin for it in rows), 1),
-        round(bands[-1][1], 1),
+    return Folded(
+        round(rows[0].ends[1] + room[0], 1),
+        round(rows[-1].y + rows[-1].low - rows[-1].top, 1),
         {it: moved(point) for it, point in drawn.nodes.items()},
         {it: moved(point) for it, point in drawn.labels.items()},
-        {it: [list(map(rows[at].move, points)) for at, points in found] for it, found in pieces.items()},
-        {it: notes_of(found, rows, row_of(drawn.labels[it])) for it, found in pieces.items()},
-        bands,
+        {it: edge.curve for it, edge in edges.items()},
+        {it: edge.boxes for it, edge in edges.items()},
+        {it: edge.folds for it, edge in edges.items()},
+        [(it.y, it.y + it.low - it.top) for it in rows],
     )

@@ -2,21 +2,16 @@
 processor may keep back. Scripts as in cases.py, and graphs that are refused."""
 import json
 
-from tell_tests.cases import A, S, V4, V5, Z, do, edge, graph, vertex
+from rewind_tools.testing import LINE, graph_line
+from tell_tests.cases import A, S, V4, V5, V6, Z, do, edge, graph, typed, vertex
 
-V6 = '{"version":6}'
-X, Y = vertex("x", "opaque", ports=2), vertex("y", "sink")
-TRACED = json.dumps(
-    graph([A, X, Y, Z], [edge("ax", "a", "x"), edge("xy", "x", "y"), edge("xz", "x", "z", 1)])
-)
-SOURCE = json.dumps(
-    graph([vertex("x", "opaque", ports=1, starts=True), Z], [edge("xz", "x", "z", route="exchange")])
-)
+X = vertex("x", "opaque", ports=2)
+TRACED = graph_line("a(input) --[ax]--> x(opaque ports=2) --[xy]--> y(sink)", "x --[xz] port=1--> z(sink)")
+SOURCE = graph_line("x(opaque ports=1 starts=true) --[xz] exchange--> z(sink)")
 SUM_BESIDE = json.dumps(
     graph([A, X, S, vertex("h", "hold")], [edge("as", "a", "s"), edge("ah", "a", "h"), edge("ax", "a", "x")])
 )
-FEED = do("feed", p=0, vertex="a", values=[7], next="close")
-TAKE = do("take", p=0, edge="ax", time=[0], value=7)
+FEED, TAKE = typed("feed 0 a 7 close; take 0 ax 0 7")
 
 
 def send(values, **more):
@@ -29,10 +24,9 @@ def release(**more):
 
 OPAQUE_TOLD = {
     "sends and releases": ([], [
-        V6, TRACED, FEED, TAKE, send([1, 2]), send([5], port=1, at=[2]), do("effect", to=4),
-        send([], port=2), release(to=[1]), send([1], time=[1], at=[0]), send([1]), do("run", limit=100),
-        do("passed", q=0, at="y", time=[1]), do("candidates"), do("notice", p=0, vertex="x", time=[1]),
-        do("why", q=0, at="y", time=[1]),
+        V6, TRACED, FEED, TAKE, *typed("send 0 x 0 0 1 2; send 0 x 0 1 5 at 2; effect 4; send 0 x 0 2; "
+            "release 0 x 0 to 1; send 0 x 1 0 1 at 0; send 0 x 0 0 1; run 100; passed 0 y 1; candidates; "
+            "notice 0 x 1; why 0 y 1"),
     ], 0, [
         (2, "vertices: a (input), x (opaque, 2 ports), y (sink), z (sink)"),
         (2, "xz from x port 1 to z (local)"), (2, "read: 7 locations, 1 processor"),
@@ -52,21 +46,20 @@ OPAQUE_TOLD = {
         (16, "it still counts 1 at x (1); held there: the capability of processor 0"),
     ]),
     "what is kept back": ([], [
-        V6, TRACED, FEED, TAKE, do("broadcast", p=0), do("receive", **{"from": 0, "to": 0}), send([1]),
-        send([1], port=1), do("broadcast", p=0, part=[["xy", [0]]]), release(),
-        do("broadcast", p=0, part=[["x", [0]]]), do("broadcast", p=0),
+        V6, TRACED, FEED, TAKE, *typed("broadcast 0; receive 0 0; send 0 x 0 0 1; send 0 x 0 1 1; "
+            "broadcast 0 xy 0; release 0 x 0; broadcast 0 x 0; broadcast 0"),
     ], 0, [
         (9, "done: the cursor is at 7 of 7 kept steps"),
         (10, "processor 0 releases the capability that it holds at x (0)"),
-        (11, "refused: xz (0) would be left out, and is positive; strictly before it "
-            "there is neither a negative entry that is left out, too, nor a token of processor 0, nor a "
-            "capability that it holds at an opaque vertex"),
+        (11, "refused: xz (0) would be left out, and is positive; strictly before it there is neither a "
+            "negative entry that is left out, too, nor a token of processor 0, nor a capability that it "
+            "holds at an opaque vertex"),
         (12, "done: the cursor is at 9 of 9 kept steps"),
     ]),
     "starts and delays": (["--processors", "2"], [
-        V6, SOURCE, do("state"), send([5], dest=0), do("effect", to=1), send([5], dest=2),
-        release(to=[3], keep=True), do("effect", to=2), release(to=[3], keep=True), release(), release(p=1),
-        do("export"), release(p=1, to=[4]), release(to=[0], keep=True), release(time=[3], to=[3], keep=True),
+        V6, SOURCE, *typed("state; send 0 x 0 0 5 dest 0; effect 1; send 0 x 0 0 5 dest 2; "
+            "release 0 x 0 to 3 keep; effect 2; release 0 x 0 to 3 keep; release 0 x 0; release 1 x 0; "
+            "export; release 1 x 0 to 4; release 0 x 0 to 0 keep; release 0 x 3 to 3 keep"),
         release(time=[3], to=[4], keep=False), do("effect", to=6),
     ], 0, [
         (2, "vertices: x (opaque, 1 port, starts with a capability), z (sink)"),
@@ -85,12 +78,12 @@ OPAQUE_TOLD = {
         (17, "processor 0 no longer holds a capability at x (3)"),
     ], [(8, "no longer holds")]),
     "capabilities elsewhere": (["--processors", "2"], [
-        V6, SUM_BESIDE, do("feed", p=1, vertex="a", values=[7], next="close"), do("run", limit=99),
-        send([1]), send([1], vertex="s"), send([1], vertex="h"), release(vertex="s"),
-        do("release", p=1, vertex="h", time=[0], to=[1], keep=True), send([0] * 1025, p=1),
+        V6, SUM_BESIDE, *typed("feed 1 a 7 close; run 99; send 0 x 0 0 1; send 0 s 0 0 1; send 0 h 0 0 1; "
+            "release 0 s 0; release 1 h 0 to 1 keep"),
+        send([0] * 1025, p=1),
     ], 0, [
-        (5, "refused: processor 0 holds no capability at x (0); at x it holds: nothing; "
-            "processor 1 holds one there"),
+        (5, "refused: processor 0 holds no capability at x (0); at x it holds: nothing; processor 1 holds "
+            "one there"),
         (6, "s is a vertex (sum); vertices that hold capabilities: h and x"),
         (7, "h is a vertex (hold); vertices that send: x"),
         (8, "s is a vertex (sum); vertices that hold capabilities: h and x"),
@@ -100,7 +93,7 @@ OPAQUE_TOLD = {
     "words of version 6": ([], [
         V6, TRACED, do("sned", p=0), do("send", p=0, vertex="x", time=[0], values=[1]), send([1], prot=1),
         send([1], port=-1), send([1], dest=None), send([1], at=3), send(["1"]), release(keep=True),
-        release(to=[1], keep=1), send([1], vertex="xx"), send([1], at=[0, 1]), "send 0 x [0] 1 [5] [2]",
+        release(to=[1], keep=1), *typed("send 0 xx 0 0 1; send 0 x 0 0 1 at 0,1"), "send 0 x [0] 1 [5] [2]",
         "delayed", do("why", q=0, at="z", time=[0], keep=True),
     ], 0, [
         (3, '"sned" is not a command or query; the nearest is "send"'),
@@ -108,9 +101,8 @@ OPAQUE_TOLD = {
         (4, 'expected {"do":"send","p":0,"vertex":"x","time":[0],"port":0,"values":[1]}'),
         (5, 'the key "prot" is too many'), (6, '"port":-1 is below 0'),
         (7, '"dest":null is not a number, text, list or object'), (8, '"at":3 is a number'),
-        (9, '"values":["1"] has the item "1" at 0, which is a text'),
-        (10, 'the key "to" is missing'), (10, '"to":[0],"keep":true}'),
-        (11, '"keep":1 is a number; expected true or false'),
+        (9, '"values":["1"] has the item "1" at 0, which is a text'), (10, 'the key "to" is missing'),
+        (10, '"to":[0],"keep":true}'), (11, '"keep":1 is a number; expected true or false'),
         (12, '"xx" is not a name in the graph; expected a vertex; the nearest is "x"'),
         (13, 'the time [0,1] has 2 numbers; at "x", which lies in no loop, a time has 1 number'),
         (14, 'expected {"do":"send","p":0,"vertex":"x","time":[0],"port":1,"values":[5],"at":[2]}'),
@@ -118,8 +110,8 @@ OPAQUE_TOLD = {
         (16, 'the key "keep" is too many'),
     ]),
     "forms of version 6 in version 5": ([], [
-        V5, json.dumps(graph([A, Z], [edge("az", "a", "z")])), send([1], vertex="a"),
-        release(vertex="a", to=[1], keep=True), release(vertex="a", keep=True),
+        V5, LINE,
+        *typed("send 0 a 0 0 1; release 0 a 0 to 1 keep; release 0 a 0 keep"),
     ], 0, [
         (3, '"send" came with version 6, and the script is of version 5; its first line must be '
             '{"version":6}'),

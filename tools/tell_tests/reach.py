@@ -1,16 +1,8 @@
 """What tools/test_tell tells of scripts of version 7: what can still happen, and runs by a seed."""
-import json
+from rewind_tools.testing import LINE
+from tell_tests.cases import EXCHANGE, V6, V7, do, typed
 
-from tell_tests.cases import A, Z, do, edge, graph
-
-V7, V6 = '{"version":7}', '{"version":6}'
-EXCHANGE = json.dumps(graph([A, Z], [edge("az", "a", "z", route="exchange")]))
-LINE = json.dumps(graph([A, Z], [edge("az", "a", "z")]))
 PASSED = {"passed": {"q": 0, "at": "z", "time": [0]}}
-
-
-def feed(p, values):
-    return do("feed", p=p, vertex="a", values=values, next="close")
 
 
 def reach(limit, **more):
@@ -19,8 +11,9 @@ def reach(limit, **more):
 
 REACH_TOLD = {
     "what can still happen": (["--processors", "2"], [
-        V7, EXCHANGE, feed(0, [1]), feed(1, []), reach(1000), reach(1), reach(0),
-        do("run", limit=99, seed=1), reach(1), do("run", limit=9, seed=1, only=[0, 7]),
+        V7, EXCHANGE, *typed("feed 0 a 1 close; feed 1 a close; reach passed 0 z 0 limit 1000; "
+            "reach passed 0 z 0 limit 1; reach passed 0 z 0 limit 0; run 99 seed 1; "
+            "reach passed 0 z 0 limit 1; run 9 only 0 7 seed 1"),
     ], 0, [
         (5, "by which steps does it come to hold that processor 0 has passed z (0)? (1000 states at most)"),
         (5, "after 5 steps, and no fewer"), (5, "processor 0 broadcasts all that is unsent"),
@@ -29,19 +22,23 @@ REACH_TOLD = {
         (8, "run, at most 99 steps, chosen by the seed 1"), (9, "it holds already"),
         (10, "run processors 0 and 7 alone, at most 9 steps, chosen by the seed 1"),
     ]),
-    "what cannot happen": ([], [V7, LINE, reach(10), reach(10, **{"with": ["feed"]})], 0, [
+    "what cannot happen": ([], [
+        V7, LINE, *typed("reach passed 0 z 0 limit 10; reach passed 0 z 0 feed limit 10"),
+    ], 0, [
         (3, "at none of 1 state that can be reached; these are all"), (4, "feeds of nothing counted?"),
         (4, "after 3 steps, and no fewer"),
     ]),
     "words of version 7": ([], [
         V7, LINE, reach(1, **{"with": []}), reach(1, **{"with": ["feed", "feed"]}),
-        reach(1, **{"with": ["send"]}), do("reach", limit=1), do("run", limit=1, seed=-1), do("raech"),
+        reach(1, **{"with": ["send"]}), do("reach", limit=1), *typed("run 1 seed -1"), do("raech"),
     ], 0, [
         (3, '"with":[] is empty'), (4, "has an item twice"), (5, "is none of these"),
         (6, 'the key "when" is missing'), (7, '"seed":-1 is below 0'), (8, 'the nearest is "reach"'),
     ]),
-    "forms of version 7 in version 6": ([], [V6, LINE, reach(1), do("run", limit=1, seed=1)], 0, [
+    "forms of version 7 in version 6": ([], [
+        V6, LINE, *typed("reach passed 0 z 0 limit 1; run 1 seed 1"),
+    ], 0, [
         (3, '"reach" came with version 7, and the script is of version 6'),
         (4, 'the key "seed" of run came with version 7'),
     ]),
-}
+}  # fmt: skip

@@ -141,6 +141,15 @@ class Merging:
         if kind != LAST:
             self.apply(line, kind)
 
+    def pass_by(self, executed):
+        """Counts lines that were executed without a plan."""
+        if len(executed) == sum(map(len, self.lines)):
+            self.at = list(map(len, self.lines))
+            return
+        for line in executed:
+            self.at[line.worker] += 1
+            self.apply(line, READY)
+
     def trial(self, worker):
         """The next line of a worker, if it waits, so that the program says why."""
         batch, line = Batch(1), self.next_line(worker)

@@ -15,12 +15,13 @@ from typing import NamedTuple
 
 from rewind_tools.finishing import condition
 from rewind_tools.live.sight import item, key_of
+from rewind_tools.live.turned import Since, Turned
 from rewind_tools.showing.states import changes
 from rewind_tools.telling.commands import condition as condition_words
 from rewind_tools.telling.commands import plain
 
 # How many steps one job reads, over how many positions it looks for turns: of conditions on views, and of
-# others, which take longer; and at how many positions it asks for effects or for frontiers.
+# the person's own, which may take longer; and at how many positions it asks for effects or for frontiers.
 READ, PIECE, SLOW_PIECE, SOME = 5000, 20_000, 2000, 16
 # Of how many steps in sight is asked what they carry, how many positions have a frontier, how many turns are
 # listed, how many steps are found, and how many bins there are.
@@ -66,10 +67,10 @@ def carried(reply):
 
 
 class OverTime:
-    """What is known of all kept steps. `turned` has the turns of conditions (turned.py)."""
+    """What is known of all kept steps."""
 
-    def __init__(self, graph, turned, processors):
-        self.graph, self.turned, self.processors = graph, turned, processors
+    def __init__(self, graph, processors):
+        self.graph, self.processors, self.turned, self.since = graph, processors, Turned(), Since()
         self.replies, self.owners = [], bytearray()  # by the steps, from the first on
         self.carried, self.times, self.origins, self.near = {}, {}, {}, {}
 
@@ -78,6 +79,7 @@ class OverTime:
         del self.replies[position:], self.owners[position:]
         self.origins, self.near = {}, {}
         self.turned.forget_from(position)
+        self.since.forget_from(position)
         self.carried = {it: one for it, one in self.carried.items() if it <= position}
         for place, found in self.times.items():
             self.times[place] = {it: one for it, one in found.items() if it <= position}
@@ -85,8 +87,8 @@ class OverTime:
     # ---- what is asked for
 
     def next_job(self, asked, kept):
-        jobs = (self.nearing, self.reading, self.carrying, self.knowing, self.coming_from, self.arriving)
-        jobs += (self.turning,)
+        jobs = (self.nearing, self.finishing, self.reading, self.carrying, self.knowing, self.coming_from)
+        jobs += (self.arriving, self.turning)
         return next((job for it in jobs if (job := it(asked, kept))), None)
 
     def reading(self, asked, kept):
@@ -114,31 +116,38 @@ class OverTime:
 
         return Job(lines, add) if lines else None
 
-    def conditions(self, asked):
-        """The condition of each lane: that each processor knows of the end of a point, that it has come,
-        and one of the person's own."""
-        why, when = asked.get("why"), asked.get("when")
-        passed = [condition(self.graph, {**why, "q": q}) for q in range(self.processors)] if why else []
-        return [*passed, *map(truth, passed[:1]), *([when] if when else [])]
+    def passed(self, asked):
+        """The conditions that each processor knows of the end of a point."""
+        why = asked.get("why")
+        return [condition(self.graph, {**why, "q": q}) for q in range(self.processors)] if why else []
+
+    def own(self, asked):
+        """The person's own condition, if there is one."""
+        return [asked["when"]] if asked.get("when") else []
 
     def nearing(self, asked, kept):
         """Asks where the conditions turn among the steps in sight, if that is not known of all steps yet."""
         first, last = asked.get("window") or (1, 0)
         is_few = 0 < last - first < MOST_CARRYING and last <= kept
-        open_ = [it for it in self.conditions(asked) if self.turned.about(it)["to"] < last] if is_few else []
+        all_ = [*self.passed(asked), *self.own(asked)] if is_few else []
+        open_ = [it for it in all_ if self.turned.about(it)["to"] < last]
         keys = {json.dumps([it, first, last]): it for it in open_}
         missing = {key: it for key, it in keys.items() if key not in self.near}
         lines = [{"do": "turns", "when": it, "lo": first - 1, "hi": last} for it in missing.values()]
         return Job(lines, lambda replies: self.near.update(zip(missing, replies))) if lines else None
 
+    def finishing(self, asked, kept):
+        """Asks from where on the point is finished in truth, which stays so."""
+        line = next((self.since.next_line(truth(it), kept) for it in self.passed(asked)), None)
+        return Job([line], lambda replies: self.since.add(line, replies[0])) if line else None
+
     def knowing(self, asked, kept):
         """Asks from where on the processors know of the point's end."""
-        known = self.conditions(asked)[: self.processors] if asked.get("why") else []
-        return self.turns_job(known, kept, PIECE)
+        return self.turns_job(self.passed(asked), kept, PIECE)
 
     def turning(self, asked, kept):
-        """Asks where the conditions of the other lanes turn."""
-        return self.turns_job(self.conditions(asked), kept, SLOW_PIECE)
+        """Asks where the person's own condition turns."""
+        return self.turns_job(self.own(asked), kept, SLOW_PIECE)
 
     def turns_job(self, conditions, kept, most):
         """Asks about the condition of which least is known."""
@@ -188,11 +197,21 @@ class OverTime:
             "read": len(self.replies),
             "density": self.density(1, kept, bins),
             "near": self.density(first, last, bins) if last - first >= MOST_CARRYING else None,
-            "lanes": [self.lane(it, first, last) for it in self.conditions(asked)],
+            "lanes": self.lanes(asked, kept, first, last),
             "carried": {it: self.carried[it] for it in range(first, last + 1) if self.carried.get(it)},
             "origin": self.origins.get(key),
             "times": [[it, found[it]] for it in self.samples(kept) if it in found],
         }
+
+    def lanes(self, asked, kept, first, last):
+        """What is known of the condition of each lane: of each processor, of the truth, of the person."""
+        passed = self.passed(asked)
+        finished = [{"when": "", **self.since.about(truth(it), kept), "near": None} for it in passed[:1]]
+        return [
+            *(self.lane(it, first, last) for it in passed),
+            *finished,
+            *(self.lane(it, first, last) for it in self.own(asked)),
+        ]
 
     def lane(self, when, first, last):
         """What is known of a condition: up to a position, and of the steps in sight, if that is beyond."""

@@ -211,14 +211,19 @@ class Pictures:
             time = times[0] if times else [0] * (self.depths[place] + 1)
         question = {"q": q, "at": place, "time": time, "before": bool(asked.get("before"))}
         told = self.whys([question], [arriving])[0]
-        return {**told, "rest": self.rest(question)} if told.get("passed") is False else told
+        if told.get("passed") is False:
+            told["rest"] = self.rests([question])[0][0]
+        return told
 
-    def rest(self, question):
-        """What is left at rest, if few steps are left."""
-        reply = self.session.ask({"do": "why", **question, "rest": FEW})
+    def rests(self, questions):
+        """What is left at rest, if few steps are left, and how many steps the program has run for that."""
+        replies = self.session.ask_all([{"do": "why", **it, "rest": FEW} for it in questions])
+        return [(plain(self.rest_words(it)), it["ran"]) for it in replies]
+
+    def rest_words(self, reply):
         if reply["stop"] == "limit" and not reply["passed"]:
-            return f'more than {FEW} steps are left: "How can this finish?" goes through them'
-        return plain(rest_words(reply, self.holds))
+            return f"more than {FEW} steps are left"
+        return rest_words(reply, self.holds)
 
     def whys(self, questions, arriving):
         """The answers why processors do not consider points finished, each with the reasons in words and

@@ -3,7 +3,9 @@
 The address has a random key. A request without it, for a host that is not this machine or from another
 page's origin is refused. The page may load the server's own files alone (Content-Security-Policy)."""
 import ipaddress
+import itertools
 import json
+import math
 import secrets
 import sys
 import threading
@@ -15,7 +17,6 @@ from rewind_tools import finishing, opening, typed
 from rewind_tools.journal import Journal, Stopped, opened_by
 from rewind_tools.live.over_time import OverTime
 from rewind_tools.live.pictures import Pictures
-from rewind_tools.live.turned import Turned
 from rewind_tools.page import FILES, live_page, part
 from rewind_tools.script import COMMANDS, STEPS
 from rewind_tools.second import Second
@@ -53,6 +54,12 @@ class Refused(Exception):
         self.status, self.why = status, why
 
 
+class Mine(threading.local):
+    """The number of the question that a thread answers; a thread that answers none is never cancelled."""
+
+    number = math.inf
+
+
 class Live:
     """The session of all pages: one question at a time, and a number that grows with each change. What may
     take long is asked of a second program meanwhile; `progress` says how far it is. `say` prints a line."""
@@ -68,11 +75,13 @@ class Live:
         )
         self.journal = Journal(session, name, say)
         self.pictures = Pictures(session, self.teller, self.journal.with_place)
-        self.over = OverTime(self.teller.graph, Turned(), self.teller.processors)
+        self.over = OverTime(self.teller.graph, self.teller.processors)
         self.second = Second(self.journal, self.show_progress)
         self.revision, self.ended, self.progress = 0, None, ""
         self.rounds = finishing.Rounds()
-        self.is_cancelled = self.is_closing = False
+        # a cancel is of the questions that came before it, in whichever tab
+        self.numbers, self.cancelled, self.mine = itertools.count(1), 0, Mine()
+        self.is_closing = False
         self.verdict = ""
         session.on_end(self.has_ended)
 
@@ -115,7 +124,7 @@ class Live:
                 self.mark_refused(entry, last, why)
         for step, *it in marks or ():
             self.pictures.mark(self.kept if step == "end" else step, *it)
-        self.journal.report, self.journal.may_go_on = self.show_progress, lambda: not self.is_cancelled
+        self.journal.report, self.journal.may_go_on = self.show_progress, self.may_go_on
         return refused
 
     def mark_refused(self, entry, position, why):
@@ -206,13 +215,13 @@ class Live:
         """The answer to a question of a page, by its path."""
         if self.ended:
             raise Refused(503, self.ended)
-        if path != "overview":  # which the page asks by itself
-            self.is_cancelled = path == "cancel"
-        if path in FINISHING or path in ASIDE:
-            return self.asked_second(path, asked)
-        if self.is_cancelled:
+        self.mine.number = next(self.numbers)
+        if path == "cancel":
+            self.cancelled = self.mine.number
             self.second.stop()
             return {}
+        if path in FINISHING or path in ASIDE:
+            return self.asked_second(path, asked)
         try:
             with self.lock:
                 return self.answered(path, asked)
@@ -279,8 +288,12 @@ class Live:
     def go_on(self, text):
         """Notes how far something long is, which ends if it is cancelled."""
         self.progress = text
-        if self.is_cancelled or self.is_closing:
+        if not self.may_go_on() or self.is_closing:
             raise Stopped("cancelled")
+
+    def may_go_on(self):
+        """Whether the question that this thread answers is not cancelled."""
+        return self.mine.number > self.cancelled
 
     def state_at(self, asked):
         """The state at another position than the cursor's, as the page shows it."""

@@ -58,7 +58,7 @@ def held_in_sight(processor, ops):
 
 def window(cursor, kept, count=STEPS, first=None, of=None):
     """The first and the last step in sight, of so many: from `first` on if the cursor is there, or is the
-    one `of` which that was chosen; else around the cursor. page/time.js has the same."""
+    one `of` which that was chosen; else around the cursor. page/known.js has the same."""
     if first is None or cursor != of and not first - 1 <= cursor < first + count:
         first = cursor - count // 2
     first = max(1, min(first, kept - count + 1))

@@ -1,37 +1,30 @@
 """The page of a session that is live, or of a run that is recorded: one page with two sources of answers.
 
-A live page loads its style and its scripts from the server; a recorded one has them, and the answers, in
+A live page loads its style and its modules from the server; a recorded one has them, and the answers, in
 itself."""
 import json
 import os
+import re
 from html import escape
 
 from rewind_tools.showing.graphs import graph_svg, laid_out, prefix_of, without_prefix
 
 FOLDER = os.path.dirname(os.path.abspath(__file__))
-SHARED = ("base.js", "time.js", "drawing.js", "panels.js", "address.js")
-SCRIPTS = {
-    "live": (*SHARED, "held.js", "finishing.js", "asking.js", "forms.js", "live.js", "keys.js"),
-    "recorded": (*SHARED, "recorded.js", "keys.js"),
-}  # fmt: skip
-FILES = {
-    "page.css": "text/css; charset=utf-8",
-    **{it: "text/javascript; charset=utf-8" for it in SCRIPTS["live"]},
-}
-KEYS = {
-    "live": "Keys: left and right undo and redo, Home and End go to the ends, n executes the next step, r"
-    " runs, s saves, + and - show fewer or more steps, 0 all; Tab and Enter reach every button.",
-    "recorded": "Keys: left and right go one position back or forward, page up and page down one line, Home"
-    " and End to the ends, + and - show fewer or more steps, 0 all.",
-}
+MODULES = sorted(it for it in os.listdir(FOLDER) if it.endswith(".js"))
+FILES = {"page.css": "text/css; charset=utf-8", **dict.fromkeys(MODULES, "text/javascript; charset=utf-8")}
+# The lines of a module that name others, and what it hands to them.
+IMPORT, EXPORT = re.compile(r'(?m)^import (?:.* from )?"\./(.*)";\n'), re.compile(r"(?m)^export ")
 WORDS = {
     "live": {
         "back": "undo the last step", "redo": "execute the next kept step again", "on": "redo",
         "conditions": "Conditions", "changed": "changed by the last step",
+        "keys": "\u2190 \u2192 undo, redo \u00b7 Home End ends \u00b7 n next step \u00b7 r run \u00b7 s save"
+        " \u00b7 + \u2212 0 zoom",
     },
     "recorded": {
         "back": "one position back", "redo": "one position forward", "on": "forward",
         "conditions": "Breakpoints", "changed": "changed since the position before",
+        "keys": "\u2190 \u2192 positions \u00b7 PgUp PgDn lines \u00b7 Home End ends \u00b7 + \u2212 0 zoom",
     },
 }  # fmt: skip
 
@@ -39,6 +32,16 @@ WORDS = {
 def part(name):
     with open(os.path.join(FOLDER, name), encoding="utf-8") as it:
         return it.read()
+
+
+def inlined(name, seen):
+    """A module as a part of one script, after those that it imports."""
+    if name in seen:
+        return ""
+    seen.add(name)
+    text = part(name)
+    before = "".join(inlined(it, seen) for it in IMPORT.findall(text))
+    return before + EXPORT.sub("", IMPORT.sub("", text))
 
 
 def places_of(graph):
@@ -52,7 +55,7 @@ def places_of(graph):
 def filled(kind, values):
     """The page with its values."""
     pieces = part("page.html").split("@")
-    values = {**WORDS[kind], "kind": kind, "keys": KEYS[kind], **values}
+    values = {**WORDS[kind], "kind": kind, **values}
     return "".join(values[it] if at % 2 else it for at, it in enumerate(pieces))
 
 
@@ -81,7 +84,8 @@ def live_page(graph, name, processors, verdict="", marks=()):
         "title": escape(name), "about": escape(json.dumps(about)), "command": "", "last": "0",
         "verdict": verdict_of(verdict, marks),
         **graph_of(graph),
-        "style": '<link rel="stylesheet" href="page.css">',
-        "scripts": "\n".join(f'<script src="{it}"></script>' for it in SCRIPTS["live"]),
+        "style": '<link rel="stylesheet" href="page.css">\n'
+        + "\n".join(f'<link rel="modulepreload" href="{it}">' for it in MODULES if it != "recorded.js"),
+        "scripts": '<script type="module" src="live.js"></script>',
     }  # fmt: skip
     return filled("live", values)

@@ -1,14 +1,14 @@
-"use strict";
 // The questions of a live page to its server, one after the other, and what is asked beside them.
-const BUSY_AFTER = 500, SLOW = 800, CANCELLED = "cancelled";
-const GONE = "the server is gone: this page shows what it answered last; start tools/live again, which names a file if steps were not saved";
-// Whether the picture is not that of the newest state that is known, and whether the last one took long.
-let isStale = false, isSlow = false;
-// The number of the session's newest state, as the server told it beside its answers.
-let newest = 0;
-let revision = 0, busy = Promise.resolve(), waiting = 0, busyTimer = null, isCancelled = false;
+import { by } from "./base.js";
+import { overQuestion } from "./known.js";
+import { question, say, set, state, view } from "./store.js";
 
-async function asked(path, value) {
+const BUSY_AFTER = 500, SLOW = 800;
+export const CANCELLED = "cancelled";
+export const GONE = "the server is gone: this page shows what it answered last; start tools/live again, which names a file if steps were not saved";
+let last = Promise.resolve();
+
+export async function asked(path, value) {
   const begun = performance.now();
   let answer;
   try {
@@ -17,90 +17,73 @@ async function asked(path, value) {
     throw new Error(GONE);
   }
   const told = await answer.json();
-  if (told.picture) isSlow = performance.now() - begun > SLOW;
+  if (told.picture) state.isSlow = performance.now() - begun > SLOW;
   if (!answer.ok) throw Object.assign(new Error(told.error), { status: answer.status });
   return told;
 }
 
-// ---- one question after the other, so that answers come in the order of clicks. A cancel is of all that wait.
-
-function inTurn(action) {
+// Does what asks questions after all that waits, so that answers come in the order of clicks: its result, undefined if it
+// fails or is cancelled. A cancel is of all that wait.
+export function inTurn(action) {
   let hasFailed = false;
   const fail = (fault) => { hasFailed = true; say(fault.message, true); };
-  waiting += 1;
-  if (waiting === 1) {
-    isCancelled = false;
-    busyTimer = setTimeout(() => { by("busy").hidden = false; }, BUSY_AFTER);
-  }
-  busy = busy.then(() => (isCancelled ? undefined : action())).catch((fault) => {
+  set({ waiting: state.waiting + 1, ...(state.waiting ? {} : { isCancelled: false }) });
+  last = last.then(() => (state.isCancelled ? undefined : action())).catch((fault) => {
     if (fault.status !== 409) return fail(fault);
     say(fault.message, true);
     return refresh();
   }).catch(fail).finally(() => {
-    waiting -= 1;
-    if (waiting) return;
-    clearTimeout(busyTimer);
-    by("busy").hidden = true;
-    progress("");
-    if (!hasFailed && (isStale || newest > revision)) inTurn(refresh);
+    set({ waiting: state.waiting - 1 });
+    if (!state.waiting && !hasFailed && (state.isStale || state.newest > state.revision)) inTurn(refresh);
   });
-  return busy;
+  return last;
 }
 
-function progress(text) {
-  by("progress").textContent = text || "working";
+export function progress(text) {
+  set({ progress: text });
 }
 
-// The candidates are asked for after the picture, since the program tries each.
-function inSight() {
-  return { ...sight, ...view, candidates: null, why: chosen.time || chosen.place === null ? question() : null };
+export function cancel() {
+  set({ isCancelled: true, progress: CANCELLED });
+  say(CANCELLED);
+  asked("cancel", {}).catch((fault) => say(fault.message, true));
 }
 
-async function refresh() {
-  take(await asked("picture", { sight: inSight() }));
-  return follow();
+// What is in sight; the candidates are asked for after the picture, since the program tries each.
+export function inSight() {
+  const { sight, chosen } = state;
+  return { ...sight, candidates: null, why: chosen.time || chosen.place === null ? question() : null };
 }
 
-// What follows a picture: the candidates, unless another question waits.
-async function follow() {
-  if (waiting > 1) isStale = true;
-  else {
-    const told = await asked("candidates", { first: sight.candidates });
-    if (told.revision === revision) picture.candidates = told.candidates;
-    else isStale = true;
-    showCandidates();
-  }
+export async function refresh() {
+  return take(await asked("picture", { sight: inSight() }));
 }
 
-function take(told) {
-  before = picture && told.picture.at === picture.at + 1 ? picture : null;
-  revision = told.revision;
-  picture = told.picture;
-  view.first = picture.steps.first;
-  isStale = false;
-  show();
-  lookAtAll();
+// Takes a picture, and asks for the candidates, unless another question waits.
+export async function take({ picture, revision }) {
+  const { picture: old, sight } = state, before = old && picture.at === old.at + 1 ? old : null;
+  const { why, steps } = picture;
+  set({ revision, before, picture, why, steps, candidates: null, isStale: state.waiting > 1, sight: { ...sight, first: steps.first } });
+  if (state.isStale) return;
+  const told = await asked("candidates", { first: sight.candidates });
+  if (told.revision === revision) set({ candidates: told.candidates });
+  else state.isStale = true;
 }
 
 // ---- what is known of all kept steps, which is asked beside the other questions, a piece at a time
 
 let knownFor = "", isLooking = false;
 
-function isKnown() {
-  return JSON.stringify([picture.changes, overQuestion()]) === knownFor;
-}
-
 async function lookAtAll() {
   if (isLooking) return;
   isLooking = true;
   try {
-    while (!isKnown()) {
-      const ask = overQuestion(), told = await asked("overview", ask);
+    for (let ask = overQuestion(); knownFor !== JSON.stringify([state.picture.changes, ask]); ask = overQuestion()) {
+      const told = await asked("overview", ask);
+      if (told.stopped === CANCELLED && !state.isCancelled) continue; // by another tab
       if (told.stopped) break;
       if (told.whole) knownFor = JSON.stringify([told.changes, ask]);
-      over = { ...told, about: JSON.stringify(ask.why), said: told.whole ? "" : `looked at ${lookedAt(told)} of ${told.kept}` };
-      showTime();
-      showTurns();
+      set({ over: { ...told, about: JSON.stringify(ask.why), said: told.whole ? "" : `looked at ${lookedAt(told)} of ${told.kept}` } });
     }
   } catch (fault) {
     if (fault.message !== GONE) say(fault.message, true);
@@ -114,3 +97,15 @@ function lookedAt({ read, lanes }) {
   const all = [read, ...lanes.filter((it) => !it.error).map((it) => it.to)];
   return Math.floor(all.reduce((one, other) => one + other) / all.length);
 }
+
+let busyTimer = null;
+view(["waiting"], () => {
+  if (state.waiting && !busyTimer) busyTimer = setTimeout(() => { by("busy").hidden = false; }, BUSY_AFTER);
+  if (state.waiting) return;
+  clearTimeout(busyTimer);
+  busyTimer = null;
+  by("busy").hidden = true;
+  progress("");
+}, false);
+view(["progress"], () => { by("progress").textContent = state.progress || "working"; }, false);
+view(["picture", "why", "sight"], lookAtAll);

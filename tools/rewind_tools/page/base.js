@@ -1,71 +1,65 @@
-"use strict";
-// What every part of the page needs: elements, fields, and numbers, which stay text, since a browser's end at 53 bits.
-const by = (id) => document.getElementById(id);
-const about = JSON.parse(document.body.dataset.about);
-const SVG = "http://www.w3.org/2000/svg";
-const GREATEST = (1n << 63n) - 1n, GREATEST_COUNTER = (1n << 32n) - 1n, GREATEST_SEED = (1n << 64n) - 1n;
-// The picture that is shown, and the one before it, if one step leads from that to this.
-let picture = null, before = null;
-// What is in sight beside the cursor: the first point of the table and the first candidate by their numbers, and a condition.
-const sight = { points: 0, candidates: 0, when: null };
+// Elements, fields, and numbers, which stay text, since a browser's end at 53 bits.
+export const by = (id) => document.getElementById(id);
+export const GREATEST_COUNTER = (1n << 32n) - 1n, GREATEST_SEED = (1n << 64n) - 1n;
+const SVG = "http://www.w3.org/2000/svg", GREATEST = (1n << 63n) - 1n;
 
-function made(kind, text, className) {
+// An element with a text, or with others in it.
+export function made(kind, content = [], className = "") {
   const it = document.createElement(kind);
-  if (text !== undefined) it.textContent = text;
+  it.append(...[content].flat());
   if (className) it.className = className;
   return it;
 }
 
-function drawn(kind, attributes, text) {
+export function drawn(kind, attributes, content = []) {
   const it = document.createElementNS(SVG, kind);
   for (const [key, value] of Object.entries(attributes)) it.setAttribute(key, value);
-  if (text !== undefined) it.textContent = text;
+  it.append(...[content].flat());
   return it;
 }
 
-function button(text, action, className) {
+export function labelled(control, label) {
+  control.setAttribute("aria-label", label);
+  return control;
+}
+
+export function button(text, action, className) {
   const it = made("button", text, className);
   it.type = "button";
   it.addEventListener("click", action);
   return it;
 }
 
-// A control with its label before it.
-function field(label, control) {
-  const it = made("label", `${label} `);
-  it.append(control);
-  return it;
+// A field for a text of some letters.
+export function input(size, more = {}) {
+  return Object.assign(made("input"), { size, ...more });
 }
 
-function options(select, texts, at) {
+// A control with its label before it.
+export function field(label, control) {
+  return made("label", [`${label} `, control]);
+}
+
+export function options(select, texts, at) {
   const now = [...select.options].map((it) => it.textContent);
   if (now.join("\n") !== texts.join("\n")) select.replaceChildren(...texts.map((text) => made("option", text)));
   select.selectedIndex = at;
 }
 
-function select(label, texts, at, pick) {
-  const it = made("select");
-  it.setAttribute("aria-label", label);
+export function select(label, texts, at = 0, pick = () => {}) {
+  const it = labelled(made("select"), label);
   options(it, texts, at);
   it.addEventListener("change", () => pick(it.selectedIndex));
   return it;
 }
 
-function say(text, isRefused) {
-  by("said").textContent = text;
-  by("said").className = isRefused ? "refused" : "";
-}
-
-function processors() {
-  return Array.from({ length: about.processors }, (_, p) => `processor ${p}`);
-}
-
-function timeText(time) {
-  return `(${time.join(",")})`;
+export function onSubmit(form, act) {
+  form.addEventListener("submit", (event) => { event.preventDefault(); act(); });
+  return form;
 }
 
 // Draws what an element contains, and leaves the focus where it was: on the control of the same number.
-function redrawn(element, ...parts) {
+export function redrawn(element, ...parts) {
   const all = () => [...element.querySelectorAll("button, input, select")];
   const at = all().indexOf(document.activeElement);
   element.replaceChildren(...parts);
@@ -83,13 +77,27 @@ function numbersOf(text, least, greatest) {
   return { numbers: parts.map((it) => BigInt(it).toString()) };
 }
 
-function valuesOf(text) {
+// The one integer of a text, as a text.
+export function numberOf(text, greatest) {
+  const { numbers, fault } = numbersOf(text, 0n, greatest);
+  return numbers && numbers.length === 1 ? { number: numbers[0] } : { fault: fault || "one number is wanted" };
+}
+
+export function valuesOf(text) {
   return numbersOf(text, -GREATEST - 1n, GREATEST);
 }
 
+export function timeText(time) {
+  return `(${time.join(",")})`;
+}
+
 // A time as it is typed: the epoch and the loop counters, which a browser's numbers hold.
-function timeOf(text) {
+export function timeOf(text) {
   const { numbers, fault } = numbersOf(text.replace(/[()]/g, " "), 0n, GREATEST_COUNTER);
   if (fault) return { fault };
   return numbers.length ? { time: numbers.map(Number) } : { fault: "a time is missing: its epoch, and its loop counters" };
+}
+
+export function plural(count, word) {
+  return `${count} ${word}${count === 1 ? "" : "s"}`;
 }

@@ -8,22 +8,23 @@ from html import escape
 
 from rewind_tools.layout import Drawn, Edge, layout, tidy
 from rewind_tools.ports import operators_of
-from rewind_tools.showing.loops import around, inner_boxes, loop_svg, loops_of, operator_svg
+from rewind_tools.showing.loops import around, box_of, inner_boxes, loop_svg, loops_of, operator_svg, rect
 from rewind_tools.telling.commands import op_words
-from rewind_tools.wrapping import wrapped
+from rewind_tools.wrapping import folded
 
-LETTER = 7.3
-COUNT_LETTERS = 12
+# How wide a letter is, and the longest counts at a vertex and at an edge that are not drawn narrower.
+LETTER, MOST_COUNT, MOST_AT = 7.3, "9 requests", "12 at (0,12)"
 # How wide rows may be, and how much wider a graph may be that stands in one row.
 WIDEST, SLACK = 900, 1.2
 RIM = 20  # the room around the graph
 LEAST_PREFIX = 4  # the shortest prefix of all names that is shown once
+# The tip of an arrow.
+TIP = (
+    '<defs><marker id="tip" viewBox="0 0 8 8" refX="7" refY="4" markerUnits="userSpaceOnUse" orient="auto"'
+    ' markerWidth="10" markerHeight="10"><path d="M0,0 L8,4 L0,8 z"/></marker></defs>'
+)
 # What makes an element one with a name of its own, and one that is pressed.
 NAMED, PRESSED = 'role="group" aria-label="the graph"', 'role="button" tabindex="0"'
-
-
-def width_of(text, letter=LETTER):
-    return len(text) * letter
 
 
 def kind_of(vertex):
@@ -55,15 +56,10 @@ def sizes_of(graph):
     """The size of each vertex's box and of each edge's label."""
 
     def widest(*texts):
-        return max(map(width_of, texts))
+        return max(map(len, texts)) * LETTER
 
-    boxes = {
-        it["name"]: (widest(it["name"], kind_of(it), "9 requests") + 14, 58) for it in graph["vertices"]
-    }
-    labels = {
-        it["name"]: (max(width_of(it["name"] + port_of(it)), COUNT_LETTERS * LETTER) + 4, 38)
-        for it in graph["edges"]
-    }
+    boxes = {it["name"]: (widest(it["name"], kind_of(it), MOST_COUNT) + 14, 58) for it in graph["vertices"]}
+    labels = {it["name"]: (widest(it["name"] + port_of(it), MOST_AT) + 4, 38) for it in graph["edges"]}
     return boxes, labels
 
 
@@ -74,36 +70,53 @@ def laid_out(graph, uses_dot=True):
         drawn = by_dot(graph, boxes, labels)
         if drawn:
             return drawn
-    return layout(
-        boxes, [Edge(it["name"], it["from"], it["to"], labels[it["name"]]) for it in graph["edges"]]
-    )
+    edges = [Edge(it["name"], it["from"], it["to"], labels[it["name"]]) for it in graph["edges"]]
+    return layout(boxes, edges)
 
 
 def dot_source(graph, boxes, labels):
     """The graph for dot, its names as numbers; a label is an empty box of the size that is wanted."""
     number = {it["name"]: at for at, it in enumerate(graph["vertices"])}
-    lines = ['digraph { rankdir=LR; nodesep=0.25; ranksep=0.22; node [shape=box, fixedsize=true, label=""];']
+    lines = [
+        "digraph { rankdir=LR; newrank=true; nodesep=0.25; ranksep=0.22;",
+        'node [shape=box, fixedsize=true, label=""];',
+    ]
     for name, at in number.items():
         lines.append(f"v{at} [width={boxes[name][0] / 72:.3f}, height={boxes[name][1] / 72:.3f}];")
-    lines += clusters(loops_of(graph), number, 1)
+    lines += clusters(framed_in(graph), number, 1)
+    feedbacks = {it["name"] for it in graph["vertices"] if it["op"] == "feedback"}
     for at, it in enumerate(graph["edges"]):
         wide, high = labels[it["name"]]
-        box = (
-            f'<table border="0" fixedsize="true" width="{wide:.0f}"'
-            f' height="{high:.0f}"><tr><td></td></tr></table>'
-        )
-        lines.append(f"v{number[it['from']]} -> v{number[it['to']]} [id={at}, label=<{box}>];")
+        size = f'width="{wide:.0f}" height="{high:.0f}"'
+        box = f'<table border="0" fixedsize="true" {size}><tr><td></td></tr></table>'
+        # what leaves a feedback goes back, so that the ranks of its loop go on from the loop's entry
+        ends = (it["from"], it["to"])
+        ends, way = (ends[::-1], "back") if it["from"] in feedbacks else (ends, "forward")
+        lines.append(f"v{number[ends[0]]} -> v{number[ends[1]]} [id={at}, dir={way}, label=<{box}>];")
     return "\n".join([*lines, "}"])
 
 
-def clusters(loops, number, depth):
-    """A cluster for each of the loops of a depth, with those in it."""
+def framed_in(graph):
+    """The loops, and the operators by ports with room for their names: each with its depth, its vertices and
+    how dot draws it."""
+    loops = [(*it, "margin=14;") for it in loops_of(graph)]
+    depths = {it["name"]: it["depth"] for it in graph["vertices"]}
+    operators = [vertices_of(it) for it in operators_of(graph).values()]
+    return loops + [(depths[it[0]] + 1, it, 'margin=8; fontsize=12; label=" ";') for it in operators]
+
+
+def vertices_of(operator):
+    return [f"{operator.name}.{port}" for port in operator.ports()]
+
+
+def clusters(frames, number, depth):
+    """A cluster for each of the frames of a depth, with those in it."""
     lines = []
-    for _, inside in [it for it in loops if it[0] == depth]:
-        inner = [it for it in loops if it[0] > depth and set(it[1]) <= set(inside)]
+    for _, inside, how in [it for it in frames if it[0] == depth]:
+        inner = [it for it in frames if it[0] > depth and set(it[1]) <= set(inside)]
         vertices = "; ".join(f"v{number[it]}" for it in inside)
         within = " ".join(clusters(inner, number, depth + 1))
-        lines.append(f"subgraph cluster_{depth}_{number[inside[0]]} {{ margin=14; {within} {vertices} }}")
+        lines.append(f"subgraph cluster_{depth}_{number[inside[0]]} {{ {how} {within} {vertices} }}")
     return lines
 
 
@@ -125,10 +138,11 @@ def by_dot(graph, boxes, labels):
         middles, paths = {}, {}
         for it in said.get("edges", []):
             name = graph["edges"][int(it["id"])]["name"]
-            words = it["pos"].split()
-            ends = [word[2:] for word in words if word.startswith("e,")]
-            paths[name] = [tidy(point(word)) for word in words if word[1:2] != ","]
-            paths[name] += [tidy(point(word)) for word in ends for _ in range(3)]
+            *tip, first, rest = it["pos"].replace("e,", "").replace("s,", "").split(" ", 2)
+            points = [first, *rest.split()]
+            if "s," in it["pos"]:
+                points.reverse()
+            paths[name] = [tidy(point(word)) for word in [*points, *tip * 3]]
             middles[name] = tidy(point(it["lp"]))
         return Drawn(width, height, nodes, middles, paths)
     except (ValueError, KeyError, IndexError):
@@ -143,69 +157,55 @@ def path_text(points):
 
 def graph_svg(graph, drawn):
     """The graph's picture. Each place has its number in the order of listing, by which the counts are filled
-    in. A graph that is too wide stands in rows; no loop is torn that is not too wide itself."""
-    boxes, labels = sizes_of(graph)
+    in. A graph that is too wide is folded into rows."""
+    boxes, labels = sizes = sizes_of(graph)
     width = WIDEST if drawn.width > SLACK * WIDEST else drawn.width
-    drawn = wrapped(drawn, boxes, labels, width, loop_boxes(graph, drawn, (boxes, labels), width))
-    parts = [loop_svg(graph, drawn, (boxes, labels), *it) for it in loops_of(graph)]
-    parts += [operator_svg(graph, drawn, (boxes, labels), it) for it in operators_of(graph).values()]
-    parts += [
-        edge_svg(it, drawn.curves[it["name"]], len(graph["vertices"]) + at)
-        for at, it in enumerate(graph["edges"])
-    ]
-    parts += [
-        vertex_svg(it, drawn.nodes[it["name"]], boxes[it["name"]], at)
-        for at, it in enumerate(graph["vertices"])
-    ]
-    for at, it in enumerate(graph["edges"]):
-        parts.append(
-            label_svg(it, drawn.labels[it["name"]], labels[it["name"]], len(graph["vertices"]) + at)
-        )
-    for name, notes in drawn.notes.items():
-        parts += [f'<text class="more" x="{x:g}" y="{y:g}">{escape(name)}</text>' for x, y in notes]
+    operators = operators_of(graph).values()
+    framed = {it for operator in operators for it in vertices_of(operator)}
+    # with room for the names of operators
+    tall = {it: (wide, high + 12 * (it in framed)) for it, (wide, high) in boxes.items()}
+    drawn = folded(drawn, tall, labels, width, ends_of(graph, drawn, sizes))
+    vertices, edges = enumerate(graph["vertices"]), [*enumerate(graph["edges"], len(graph["vertices"]))]
+    parts = [loop_svg(graph, drawn, sizes, *it) for it in loops_of(graph)]
+    parts += [operator_svg(graph, drawn, sizes, it.name, vertices_of(it)) for it in operators]
+    parts += [edge_svg(it, drawn.curves[it["name"]], at) for at, it in edges]
+    parts += [vertex_svg(it, box_of(drawn.nodes[it["name"]], boxes[it["name"]]), at) for at, it in vertices]
+    parts += [label_svg(it, box_of(drawn.labels[it["name"]], labels[it["name"]]), at) for at, it in edges]
     wide, high = drawn.width + 2 * RIM, drawn.height + 2 * RIM
-    head = (
-        '<defs><marker id="tip" viewBox="0 0 8 8" refX="7" refY="4" markerUnits="userSpaceOnUse"'
-        ' markerWidth="10" '
-    )
-    head += 'markerHeight="10" orient="auto"><path d="M0,0 L8,4 L0,8 z"/></marker></defs>'
-    size = f'viewBox="{-RIM} {-RIM} {wide:g} {high:g}" width="{wide:g}"'
-    size += f' data-width="{wide:g}" data-height="{high:g}"'
-    start = f'<svg xmlns="http://www.w3.org/2000/svg" class="graph" {NAMED} {size}>'
-    return f"{start}{head}{''.join(parts)}</svg>"
+    size = f'viewBox="{-RIM} {-RIM} {wide:g} {high:g}" width="{wide:g}" data-width="{wide:g}"'
+    start = f'<svg xmlns="http://www.w3.org/2000/svg" class="graph" {NAMED} {size} data-height="{high:g}">'
+    return f"{start}{TIP}{''.join(parts)}</svg>"
 
 
-def loop_boxes(graph, drawn, sizes, width):
-    """The boxes around the loops that fit into a row, each as its left, right, top and bottom."""
-    found = [inner_boxes(graph, drawn, sizes, inside) for _, inside in loops_of(graph)]
-    boxes = [(*around(it, RIM)[::2], *around(it, RIM)[1::2]) for it in found]
-    return [it for it in boxes if it[1] - it[0] <= width]
+def ends_of(graph, drawn, sizes):
+    """The left and right ends of the loops and of the operators by ports."""
+    found = [inner_boxes(graph, drawn, sizes, inside) for _, inside, _ in framed_in(graph)]
+    return [around(it, 0)[::2] for it in found]
 
 
-def edge_svg(edge, curves, number):
+def edge_svg(edge, curve, number):
     route = "exchange" if edge["route"] == "exchange" else "local"
-    path = " ".join(map(path_text, curves))
-    return f'<path class="edge {route}" data-edge="{number}" d="{path}" marker-end="url(#tip)"/>'
+    return f'<path class="edge {route}" data-edge="{number}" d="{path_text(curve)}" marker-end="url(#tip)"/>'
 
 
-def vertex_svg(vertex, middle, size, number):
-    (x, y), (wide, high) = middle, size
-    box = f'<rect x="{x - wide / 2:g}" y="{y - high / 2:g}" width="{wide:g}" height="{high:g}" rx="9"/>'
-    name = f'<text class="name" x="{x:g}" y="{y - 12:g}">{escape(vertex["name"])}</text>'
-    kind = f'<text class="kind" x="{x:g}" y="{y + 4:g}">{escape(kind_of(vertex))}</text>'
-    count = f'<text class="count" x="{x:g}" y="{y + 21:g}"></text>'
-    start = f'<g class="place vertex" data-place="{number}" {PRESSED}><title></title>'
-    return f"{start}{box}{name}{kind}{count}</g>"
+def vertex_svg(vertex, box, number):
+    texts = {"name": (17, escape(vertex["name"])), "kind": (33, escape(kind_of(vertex))), "count": (50, "")}
+    return place_svg("vertex", number, rect(box, 9), box, texts)
 
 
-def label_svg(edge, middle, size, number):
-    (x, y), (wide, high) = middle, size
-    back = (
-        f'<rect x="{x - wide / 2:g}" y="{y - high / 2 + 2:g}" width="{wide:g}" height="{high - 4:g}"'
-        ' rx="6"/>'
-    )
-    port = f'<tspan class="kind">{port_of(edge)}</tspan>'
-    name = f'<text class="name" x="{x:g}" y="{y - 4:g}">{escape(edge["name"])}{port}</text>'
-    count = f'<text class="count" x="{x:g}" y="{y + 12:g}"></text>'
-    start = f'<g class="place label" data-place="{number}" {PRESSED}><title></title>'
-    return f"{start}{back}{name}{count}</g>"
+def label_svg(edge, box, number):
+    left, top, right, bottom = box
+    name = f'{escape(edge["name"])}<tspan class="kind">{port_of(edge)}</tspan>'
+    ground = rect((left, top + 2, right, bottom - 2), 6)
+    return place_svg("label", number, ground, box, {"name": (15, name), "count": (31, "")})
+
+
+def place_svg(kind, number, ground, box, texts):
+    """A place with its ground, and texts by their classes, each so far below the top of its box."""
+    x, top = (box[0] + box[2]) / 2, box[1]
+    start = f'<g class="place {kind}" data-place="{number}" {PRESSED}><title></title>{ground}'
+    lines = [
+        f'<text class="{name}" lengthAdjust="spacingAndGlyphs" x="{x:g}" y="{top + below:g}">{text}</text>'
+        for name, (below, text) in texts.items()
+    ]
+    return f"{start}{''.join(lines)}</g>"

@@ -1,6 +1,6 @@
 """The loops of a graph and its operators by ports, and the frame round each: a rectangle in each row of the
-drawing in which it has vertices. Where another vertex stands in such a rectangle, the frame follows the
-vertices and the edges that are in it."""
+drawing in which it has vertices, and one round each fold between them. Where another vertex stands in such a
+rectangle, the frame follows the vertices and the edges that are in it."""
 from html import escape
 
 # How far the frame of an outermost loop goes beyond what is in it.
@@ -22,10 +22,10 @@ def loops_of(graph):
     return found
 
 
-def box_of(middle, size, rim=0):
+def box_of(middle, size):
     """A box as its left, top, right and bottom."""
     (x, y), (wide, high) = middle, size
-    return x - wide / 2 - rim, y - high / 2 - rim, x + wide / 2 + rim, y + high / 2 + rim
+    return x - wide / 2, y - high / 2, x + wide / 2, y + high / 2
 
 
 def around(boxes, rim):
@@ -38,9 +38,9 @@ def meet(one, other):
     return one[0] < other[2] and other[0] < one[2] and one[1] < other[3] and other[1] < one[3]
 
 
-def rect(box):
+def rect(box, rx=12):
     left, top, right, bottom = (round(it, 1) for it in box)
-    return f'<rect x="{left:g}" y="{top:g}" width="{right - left:g}" height="{bottom - top:g}" rx="12"/>'
+    return f'<rect x="{left:g}" y="{top:g}" width="{right - left:g}" height="{bottom - top:g}" rx="{rx}"/>'
 
 
 def frames(drawn, inner, others, rim):
@@ -61,12 +61,11 @@ def loop_svg(graph, drawn, sizes, depth, inside):
     return f'<g class="{"deep" if depth % 2 == 0 else "loop"}">{grounds(found)}</g>'
 
 
-def operator_svg(graph, drawn, sizes, operator):
+def operator_svg(graph, drawn, sizes, name, inside):
     """The frame of an operator by ports, with its name."""
-    inside = [f"{operator.name}.{port}" for port in operator.ports()]
     found = frames_of(graph, drawn, sizes, inside, RIM / 2)
     left, top = found[0][:2]
-    name = f'<text class="name" x="{left + 4:g}" y="{top - 3:g}">{escape(operator.name)}</text>'
+    name = f'<text class="name" x="{left + 4:g}" y="{top - 3:g}">{escape(name)}</text>'
     return f'<g class="operator">{grounds(found)}{name}</g>'
 
 
@@ -87,9 +86,9 @@ def inner_boxes(graph, drawn, sizes, inside):
 def frames_of(graph, drawn, sizes, inside, rim):
     """The boxes around some vertices and the edges between them."""
     boxes, _ = sizes
-    edges = [it for it in graph["edges"] if it["from"] in inside and it["to"] in inside]
-    curves = [it for edge in edges for it in drawn.curves[edge["name"]]]
-    inner = inner_boxes(graph, drawn, sizes, inside)
-    inner += [around([(x, y, x, y) for x, y in it], 0) for it in curves]
+    edges = [it["name"] for it in graph["edges"] if it["from"] in inside and it["to"] in inside]
+    inner = inner_boxes(graph, drawn, sizes, inside) + [box for it in edges for box in drawn.boxes[it]]
     others = [box_of(drawn.nodes[it], boxes[it]) for it in boxes if it not in inside]
-    return frames(drawn, inner, others, rim)
+    folds = [fold for it in edges for fold in drawn.folds[it]]
+    round_ = [[box for at, box in folds if at == cut] for cut in sorted({at for at, _ in folds})]
+    return frames(drawn, inner, others, rim) + [around(it, rim) for it in round_]

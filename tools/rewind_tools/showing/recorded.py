@@ -8,7 +8,7 @@ from html import escape
 
 from rewind_tools import sources
 from rewind_tools.live.pictures import LAST_COUNTER, Pictures
-from rewind_tools.page import SCRIPTS, filled, graph_of, part, places_of, verdict_of
+from rewind_tools.page import filled, graph_of, inlined, part, places_of, verdict_of
 from rewind_tools.runs import run_script, without_clients
 from rewind_tools.script import COMMANDS, STEPS
 from rewind_tools.session import Ended, Session
@@ -22,9 +22,13 @@ from rewind_tools.telling.table import Points
 # How many steps of runs a page shows at most, those that end a run aside; how long a line or a reply is;
 # how many points of the table it shows; and for how many states it asks what the last step changed.
 MOST_STEPS, LONGEST, ROWS, MOST_EFFECTS = 10_000, 2000, 400, 1000
-# How many queries for reasons a page asks about all points, and how many more about fewer of them: those
-# that the script's lines name, and those at which a vertex waits for its notification.
-MOST, MOST_OF_FEWER = 20_000, 20_000
+# How many queries for reasons a page asks about all points; how many more about fewer of them, which are
+# those that the script's lines name, and those at which a vertex waits for its notification; how many steps
+# the program runs for what is left at rest; and what of each there is at the end, where some pages open.
+MOST = {"all": 20_000, "fewer": 20_000, "steps": 500_000}
+AT_END = {"all": 1000, "fewer": 4000, "steps": 20_000}
+# As how many steps one answer about what is left at rest counts at least, and how many are asked at once.
+LEAST_STEPS, AT_ONCE = 50, 16
 # The words of lines that ask about a point, or wait at one.
 NAMING = ("passed", "why", "notice", "send", "release")
 FOLLOWED = ("error", "code", "at", "kept", "ok", "ran")
@@ -59,7 +63,7 @@ class Copy:
         self.session = Session(told.graph, without_clients(words))
         self.places = {}
         self.pictures, self.named = Pictures(self.session, teller, self.with_place), named_points(told)
-        self.left, self.log = {"all": MOST, "fewer": MOST_OF_FEWER}, Log(self.pictures, told.graph)
+        self.left, self.log = dict(MOST), Log(self.pictures, told.graph)
         self.revision, self.is_there, self.arrived = 0, "locations" in self.session.started, []
         self.at = self.kept = 0
         self.whys_told = (None, None)
@@ -142,7 +146,7 @@ class Copy:
                 self.left[asked] -= queries
                 points = [(q, *it, False) for q in range(count) for it in wanted]
                 before = [(q, *it, True) for q in range(count) for it in dict.fromkeys(waiting)]
-                return asked, self.asked(points + before)
+                return asked, self.asked(before + points)
         return "none", {}
 
     def arriving(self, state):
@@ -163,7 +167,16 @@ class Copy:
             {"q": q, "at": it, "time": [*time], "before": strictly} for q, it, time, strictly in wanted
         ]
         answers = self.pictures.whys(questions, [arriving[it[:2]] for it in wanted]) if wanted else []
+        self.add_rest(questions, answers)
         return {why_key(*it): answer for it, answer in zip(wanted, answers)}
+
+    def add_rest(self, questions, answers):
+        """Adds what is left at rest to the answers about what is not finished, as far as a page goes."""
+        left = [it for it in zip(questions, answers) if it[1].get("passed") is False]
+        for some in (left[at : at + AT_ONCE] for at in range(0, len(left), AT_ONCE)):
+            told = self.pictures.rests([question for question, _ in some]) if self.left["steps"] > 0 else []
+            for (_, answer), (answer["rest"], ran) in zip(some, told):
+                self.left["steps"] -= max(ran, LEAST_STEPS)
 
 
 class Recorder:
@@ -183,6 +196,8 @@ class Recorder:
         first = len(self.ats)
         said = self.try_copy(entry) if self.begun else []
         self.begun = self.begun or "locations" in entry.reply
+        if self.copy and self.done == self.count - 1:
+            self.copy.left = {key: max(left, AT_END[key]) for key, left in self.copy.left.items()}
         self.place(entry, {**shown_line(entry), "asked": asked, "answer": answer + said}, None)
         self.ends += [len(self.ats) - 1] * (len(self.ats) - first)
         self.done += 1
@@ -287,7 +302,7 @@ def page_of(
     """The page of a script's run, and the run. `marks` has what was refused, which is shown in red: the
     number of the step before it, or "end", the worker and a text. `places` has by the number of a line of
     the script where that comes from, as bytes (rewind_tools/sources.py). The verdict is what was said of a
-    run that was followed; with one the page opens at its end."""
+    run that was followed; with one the page opens at its end, else at its first position with a state."""
     told = run_script(script, words, ())
     start = next((it.reply for it in told.entries if "locations" in it.reply), {})
     has_form = start or any("location" in it.reply for it in told.entries[:1])
@@ -297,13 +312,14 @@ def page_of(
     drawn = graph_of(graph, uses_dot) if has_form else none
     about = {"processors": count, "places": places_of(graph), "name": name}
     run = recorded(told, script, words, report, marks, places or {})
-    about["opens"] = len(run["ats"]) - 1 if verdict or is_at_end else 0
+    first = next((it for it, at in enumerate(run["ats"]) if at is not None), 0)
+    about["opens"] = len(run["ats"]) - 1 if verdict or is_at_end else first
     values = {
         "title": escape(f"{name}, {counted(count, 'processor')}" if start else name),
         "command": escape(" ".join(["rewind", *words, "<", name])), "verdict": verdict_of(verdict, marks),
         "about": escape(json.dumps(about)), **drawn, "last": str(len(run["ats"]) - 1),
         "style": f"<style>\n{part('page.css')}</style>",
-        "scripts": f'<script type="application/json" id="recorded">{embedded(run)}</script>\n<script>\n'
-        + "\n".join(map(part, SCRIPTS["recorded"])) + "</script>",
+        "scripts": f'<script type="application/json" id="recorded">{embedded(run)}</script>\n'
+        f'<script type="module">\n{inlined("recorded.js", set())}</script>',
     }  # fmt: skip
     return filled("recorded", values), told

@@ -225,11 +225,9 @@ def queue_empty(teller, value, reply, before):
     if before is None:
         return said
     senders = [p for p, row in enumerate(before["queues"]) if row[value["to"]]]
-    return (
-        f"{said}; to {value['to']} something is on its way from {some_of(senders)}"
-        if senders
-        else f"{said}, nor from others"
-    )
+    if not senders:
+        return f"{said}, nor from others"
+    return f"{said}; to {value['to']} something is on its way from {some_of(senders)}"
 
 
 def timeline_full(teller, value, reply, before):
@@ -243,15 +241,26 @@ def sentence(words):
     return lambda teller, value, reply, before: words
 
 
+def at_vertex(words):
+    return lambda teller, value, *_: f"{teller.graph.vertex_of(value)} {words}"
+
+
+def no_memory(teller, value, reply, before):
+    return "no memory was left" + (f"; {stopped(reply)}" if "at" in reply else "")
+
+
+def bad_range(teller, value, reply, before):
+    if "lo" in value:
+        return f"lo, {value['lo']}, is above hi, {value['hi']}"
+    key, what = ("rest", "number of steps") if value["do"] == "why" else ("limit", "limit")
+    return f"the {what}, {value[key]}, is not from 1 to 1000000"
+
+
 REFUSALS = {
     "NoProcessor": Teller.no_processor,
     "NotInput": Teller.not_input,
-    "InputClosed": lambda teller, value, reply, before: (
-        f"processor {value['p']} has given up its token of {value['vertex']}"
-    ),
-    "TooManyValues": lambda teller, value, reply, before: (
-        f"there are {len(value['values'])} values; at most 1024 are allowed"
-    ),
+    "InputClosed": lambda _, it, *__: f"processor {it['p']} has given up its token of {it['vertex']}",
+    "TooManyValues": lambda _, it, *__: f"there are {len(it['values'])} values; at most 1024 are allowed",
     "EpochFull": sentence('the token is at the last epoch, 4294967295; "close" and "stay" are left'),
     "NoRecord": no_record,
     "NoRequest": no_request,
@@ -260,20 +269,15 @@ REFUSALS = {
     "NotLater": not_later,
     "NoPort": no_port,
     "TooEarly": too_early,
-    "CounterFull": lambda teller, value, reply, before: (
-        f"{teller.graph.vertex_of(value)} would raise a counter past 4294967295"
-    ),
-    "ValueRange": lambda teller, value, reply, before: (
-        f"{teller.graph.vertex_of(value)} would make a number past 64 bits"
-    ),
+    "CounterFull": at_vertex("would raise a counter past 4294967295"),
+    "ValueRange": at_vertex("would make a number past 64 bits"),
     "CountFull": sentence("a record's or a sink's count would pass 1099511627776"),
     "DeltaFull": sentence("an unsent entry or one of a view would pass 1099511627776"),
     "NothingToSend": sentence("nothing of this is unsent"),
     "NotAdmissible": inadmissible,
     "QueueEmpty": queue_empty,
     "QueueFull": sentence("a queue from the processor holds 65536 changes; receives make room"),
-    "Memory": lambda teller, value, reply, before: "no memory was left"
-    + (f"; {stopped(reply)}" if "at" in reply else ""),
+    "Memory": no_memory,
     "AtStart": sentence("no step is kept before the cursor"),
     "AtEnd": sentence("no step is kept after the cursor"),
     "NoSuchPoint": Teller.no_such_point,
@@ -281,17 +285,9 @@ REFUSALS = {
     "TooManyBreaks": sentence("32 breakpoints are set; at most 32 are allowed"),
     "NoBreak": Teller.no_break,
     "LogFull": sentence("1000000 commands are logged, and no more are executed"),
-    "BadRange": lambda teller, value, reply, before: (
-        f"the limit, {value['limit']}, is not from 1 to 1000000"
-        if value["do"] == "reach"
-        else f"the number of steps, {value['rest']}, is not from 1 to 1000000"
-        if value["do"] == "why"
-        else f"lo, {value['lo']}, is above hi, {value['hi']}"
-    ),
+    "BadRange": bad_range,
     "NoWorkers": sentence('"workers" is 0; at least 1 thread is needed'),
-    "Missing": lambda teller, value, reply, before: (
-        f"out of memory at piece {reply['piece']} of the positions"
-    ),
+    "Missing": lambda _, __, reply, ___: f"out of memory at piece {reply['piece']} of the positions",
 }
 
 
@@ -394,18 +390,11 @@ def exported(teller, value, reply):
     steps = reply["steps"]
     told = [f"{position}. {command_words(it)}" for position, it in enumerate(steps, 1)]
     rest = [f"... ({len(steps)} in all; tools/replay writes them all)"] if len(told) > MOST_STEPS else []
-    return [
-        f"{counted(len(steps), 'kept step')}, and the cursor is at {reply['at']}",
-        *told[:MOST_STEPS],
-        *rest,
-    ]
+    return [f"{counted(len(steps), 'kept step')}, and {stopped(reply)}", *told[:MOST_STEPS], *rest]
 
 
 ANSWERS = {
-    **{
-        word: Teller.moved
-        for word in (*STEPS, "back", "redo", "jump")
-    },
+    **dict.fromkeys((*STEPS, "back", "redo", "jump"), Teller.moved),
     "run": Teller.ran,
     "break": lambda teller, value, reply: [f"done: it is breakpoint {reply['id']}"],
     "unbreak": Teller.cleared,
@@ -415,9 +404,7 @@ ANSWERS = {
     "view": lambda teller, value, reply: [points(reply["view"])],
     "frontier": frontier,
     "passed": passed,
-    "search": lambda teller, value, reply: [
-        "at none" if reply["found"] is None else f"at position {reply['found']}"
-    ],
+    "search": lambda _, __, it: ["at none" if it["found"] is None else f"at position {it['found']}"],
     "export": exported,
     "why": why,
     "changes": changed,

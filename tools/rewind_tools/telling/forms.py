@@ -5,22 +5,8 @@ two."""
 import difflib
 
 from rewind_tools import script
-from rewind_tools.script import (
-    ATOMS_SINCE,
-    LAST,
-    LITERALS_SINCE,
-    MOST_LITERALS,
-    MOST_ONLY,
-    NEEDED_BY,
-    NEXT_TO_SINCE,
-    NEXTS,
-    OPTIONAL,
-    SINCE,
-    USERS,
-    atoms_of,
-    form_of,
-    words_of,
-)
+from rewind_tools.script import ATOMS_SINCE, LAST, LITERALS_SINCE, MOST_LITERALS, MOST_ONLY, NEEDED_BY
+from rewind_tools.script import NEXT_TO_SINCE, NEXTS, OPTIONAL, SINCE, USERS, atoms_of, form_of, words_of
 from rewind_tools.telling import habits, values
 from rewind_tools.telling.values import is_only, shown
 
@@ -38,6 +24,7 @@ WHEN = ("a condition", lambda value: None)
 FLAG = ("true or false", values.flag)
 USERS_LISTED = values.some_of(*USERS)
 SEVERAL = ("all", "any")
+A_LINE = "a line is an object that says what to do, as"
 
 # What stands for a value in a form that is shown.
 SAMPLES = {
@@ -74,9 +61,9 @@ def nearest(word, known):
 
 def listed(words, last="and"):
     words = list(words)
-    return (
-        words[0] if len(words) == 1 else f"{', '.join(words[:-1])} {last} {words[-1]}" if words else "none"
-    )
+    if len(words) < 2:
+        return words[0] if words else "none"
+    return f"{', '.join(words[:-1])} {last} {words[-1]}"
 
 
 def may_lack(value, key, form):
@@ -92,11 +79,8 @@ def form_shown(form, value=None, version=LAST):
     value = value or {}
     kept = kept_values(value, form)
     wanted = {key: kind for key, kind in form.items() if key in kept or not may_lack(value, key, form)}
-    return (
-        "{"
-        + ",".join(f"{shown(key)}:{member_shown(key, kind, kept, version)}" for key, kind in wanted.items())
-        + "}"
-    )
+    members = (f"{shown(key)}:{member_shown(key, kind, kept, version)}" for key, kind in wanted.items())
+    return "{" + ",".join(members) + "}"
 
 
 def member_shown(key, kind, kept, version):
@@ -161,11 +145,8 @@ def when_faults(value, version):
         return [f"{shown(name)}:{shown(inner)} {values.kind_of(inner)}; expected a list, as {right}"]
     if not 1 <= len(inner) <= MOST_LITERALS:
         return [f"{shown(name)} has {len(inner)} conditions; it may have 1 to {MOST_LITERALS}"]
-    return [
-        fault
-        for at, it in enumerate(inner)
-        for fault in literal_faults(it, version, f"item {at} of {shown(name)}")
-    ]
+    of = f"of {shown(name)}"
+    return [it for at, one in enumerate(inner) for it in literal_faults(one, version, f"item {at} {of}")]
 
 
 def literal_faults(value, version, where):
@@ -199,16 +180,12 @@ def wrong_atom(value, version, where):
     keys = [*atoms_of(version), *(further if version >= LITERALS_SINCE else [])]
     only = next(iter(value)) if len(value) == 1 else None
     if only in (*ATOMS_SINCE, *SEVERAL, "not") and version < LITERALS_SINCE:
-        return (
-            f"has the key {shown(only)}, which came with version {LITERALS_SINCE}, and the script is of"
-            f" version {version}"
-        )
+        came = f"which came with version {LITERALS_SINCE}, and the script is of version {version}"
+        return f"has the key {shown(only)}, {came}"
     near = nearest(only, keys) if only is not None else None
     hint = f"; the nearest is {shown(near)}" if near else ""
-    return (
-        f"must have exactly one key, {listed(map(shown, keys), 'or')}, and has"
-        f" {listed(map(shown, value))}{hint}"
-    )
+    wanted = f"must have exactly one key, {listed(map(shown, keys), 'or')}"
+    return f"{wanted}, and has {listed(map(shown, value))}{hint}"
 
 
 def atom_shown(name, inner=None):
@@ -219,9 +196,8 @@ def when_shown(value, version=LAST):
     """A condition as it may be written, with what is right in the value that stands in its place."""
     if version >= LITERALS_SINCE and is_only(value, *SEVERAL):
         name, inner = next(iter(value.items()))
-        items = (
-            [literal_shown(it, version) for it in inner[:MOST_LITERALS]] if isinstance(inner, list) else []
-        )
+        literals = inner[:MOST_LITERALS] if isinstance(inner, list) else []
+        items = [literal_shown(it, version) for it in literals]
         return f"{{{shown(name)}:[{','.join(items) or SAMPLES[id(WHEN)]}]}}"
     return literal_shown(value, version)
 
@@ -260,10 +236,8 @@ def line_shown(word, value=None, has_clients=False, version=LAST):
 
 def came_with(what, since, version):
     """That something came with a later version than the script's, and the first line that it needs."""
-    return (
-        f"{what} came with version {since}, and the script is of version {version}; its first line must be"
-        f' {{"version":{since}}}'
-    )
+    came = f"{what} came with version {since}, and the script is of version {version}"
+    return f'{came}; its first line must be {{"version":{since}}}'
 
 
 def word_faults(value, has_clients, version):
@@ -313,9 +287,7 @@ def shape_faults(value, has_clients, version=LAST):
     if not isinstance(value, dict):
         word = value if isinstance(value, str) else ""
         right = line_shown(word if word in words_of(version) else "back", None, has_clients, version)
-        said = (
-            f"{shown(value)} {values.kind_of(value)}; a line is an object that says what to do, as {right}"
-        )
+        said = f"{shown(value)} {values.kind_of(value)}; {A_LINE} {right}"
         return [said, *habits.instead(word, version, has_clients)]
     wrong = word_faults(value, has_clients, version)
     if wrong:
@@ -348,13 +320,8 @@ def typed_faults(words, has_clients, version):
     faults = [f"the line is not JSON, and {wrong[0]}", *wrong[1:]]
     if word in FORMS or habits.instead(word, version, has_clients):
         return faults
-    return [
-        *faults,
-        (
-            "a line is an object that says what to do, as"
-            f" {line_shown(nearest(word, known) or 'back', None, has_clients, version)}"
-        ),
-    ]
+    right = line_shown(nearest(word, known) or "back", None, has_clients, version)
+    return [*faults, f"{A_LINE} {right}"]
 
 
 def typed_values(words, form):

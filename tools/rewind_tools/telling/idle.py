@@ -14,13 +14,8 @@ def steps_left(state, holds):
     the vertices that hold capabilities."""
     for p, it in enumerate(state["processors"]):
         for edge, time, value, _ in it["records"]:
-            yield {
-                "do": "take",
-                "p": p,
-                "edge": edge,
-                "time": time,
-                "value": value,
-            }, f"{record(value)} at {at(edge, time)}"
+            take = {"do": "take", "p": p, "edge": edge, "time": time, "value": value}
+            yield take, f"{record(value)} at {at(edge, time)}"
         for vertex, time in it["requests"]:
             kind = "capability at" if vertex in holds else "notification of"
             yield {"do": "notice", "p": p, "vertex": vertex, "time": time}, f"{kind} {at(vertex, time)}"

@@ -7,12 +7,13 @@ finished; how that can finish; and which loop a run goes round.
 A copy of the run answers that, in the last version of the script, whose other replies are the same: with the
 commands that the program has executed, and questions after them. If it does not give these the same replies,
 nothing is said."""
+import contextlib
 import json
 
 from rewind_tools import finishing, runs
 from rewind_tools.at_rest import MOST
 from rewind_tools.script import COMMANDS, LAST
-from rewind_tools.session import Ended, Session
+from rewind_tools.session import Ended, Session, VersionRefused
 from rewind_tools.telling.reasons import rest_words
 
 # How many questions are asked at rest; of how many it is said how they can finish, and in how many lines.
@@ -116,15 +117,14 @@ class Resting:
         self.said.add(key)
         self.ways += 1
         try:
-            session = Session(self.told.graph, self.told.words, LAST)
-        except Ended:
+            with contextlib.closing(Session(self.told.graph, self.told.words, LAST)) as session:
+                if before:
+                    session.ask_lines(before)
+                way = finishing.way_of(session.ask, self.graph, query)
+        except VersionRefused:
             return []
-        try:
-            if before:
-                session.ask_lines(before)
-            way = finishing.way_of(session.ask, self.graph, query)
-        finally:
-            session.close()
+        except Ended as fault:
+            return [f"how this can finish is not known: {fault}"]
         _, lines, notes = way.words(self.graph.holds)
         more = [f"... ({len(lines)} in all)"] if len(lines) > MOST_LINES else []
         return lines[:MOST_LINES] + more + notes

@@ -165,7 +165,7 @@ def left_of(run):
 def silent_first(run):
     """The workers, those first whose last batch came first in the log that has most lines."""
     log = max(run.logs, key=lambda it: it.count)
-    places = {(it.source, it.scope, it.index): place for place, (_, _, it) in enumerate(log.batches)}
+    places = {(it.source, it.scope, it.index): place for place, it in enumerate(log.batches)}
     lasts = [(it, last_batch(run, it)) for it in range(len(run.logs))]
     place_of = {
         worker: places.get((worker, last.scope, last.index), len(places)) if last else -1

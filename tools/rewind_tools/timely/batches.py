@@ -39,8 +39,9 @@ class Progress:
         self.events, self.changes, self.differing = [], {}, {}
         self.firsts = first_numbers(logs)
         for log in logs:
-            self.events.append([self.indexed(it) for _, _, it in log.batches])
-        self.rebuilt = [self.rebuild(worker) for worker in range(len(logs))]
+            self.events.append([self.indexed(it) for it in log.batches])
+        lasts, beyond = self.beyond()
+        self.rebuilt = [self.rebuild(worker, lasts, beyond) for worker in range(len(logs))]
         self.sent = [[it for is_send, it in events if is_send] for events in self.events]
         self.by_index = {}
         for batches in self.sent:
@@ -60,19 +61,25 @@ class Progress:
         batch.index = batch.seq_no - self.firsts[batch.source, batch.scope] + 1
         return batch.is_send, batch
 
-    def rebuild(self, worker):
+    def beyond(self):
+        """The index of the last batch of each worker and scope that its log has, and the batches after these
+        that others received."""
+        lasts = collections.Counter()
+        for events in self.events:
+            for is_send, it in events:
+                if is_send:
+                    lasts[it.source, it.scope] = max(lasts[it.source, it.scope], it.index)
+        received = (it for events in self.events for is_send, it in events if not is_send)
+        return lasts, [it for it in received if it.index > lasts[it.source, it.scope]]
+
+    def rebuild(self, worker, lasts, beyond):
         """Adds the batches of a worker that others received and its log does not have; returns them."""
-        events, lasts = self.events[worker], collections.Counter()
-        for is_send, it in events:
-            if is_send:
-                lasts[it.scope] = max(lasts[it.scope], it.index)
         found = []
-        for received in self.events:
-            for is_send, it in received:
-                if not is_send and it.source == worker and it.index == lasts[it.scope] + 1:
-                    lasts[it.scope] += 1
-                    found.append(it)
-        events += [(True, it) for it in found]
+        for it in beyond:
+            if it.source == worker and it.index == lasts[worker, it.scope] + 1:
+                lasts[worker, it.scope] += 1
+                found.append(it)
+        self.events[worker] += [(True, it) for it in found]
         return found
 
     def change(self, batch):
@@ -97,7 +104,7 @@ class Progress:
             raise Unsupported(batch.log.path, batch.line, f"{border}: no message there explains it")
 
     def delivered(self, makes):
-        if all(port.side != LEAVING for port, _ in makes):
+        if not self.dataflow.is_nested:
             return makes
         found = collections.Counter()
         for (port, time), n in makes.items():
@@ -123,7 +130,7 @@ class Progress:
             self.epochs.add(time[0])
             point = port, time[0] if numbers == 1 else self.nested(batch, time)
             found[point] = found.get(point, 0) + n
-        return {point: n for point, n in found.items() if n}
+        return found if all(found.values()) else {point: n for point, n in found.items() if n}
 
     def nested(self, batch, time):
         """A time within loops."""
@@ -132,8 +139,9 @@ class Progress:
         return tuple(time)
 
     def compare(self, batch):
-        """Compares a batch that was received with the one that was sent."""
+        """Compares a batch that was received with the one that was sent, whose number it gets."""
         sent = self.by_index.get((batch.source, batch.scope, batch.index))
+        batch.number = sent and sent.number
         if sent is None or sent.messages is batch.messages and sent.internal is batch.internal:
             return
         apart = entries(self.change(batch))
@@ -156,7 +164,7 @@ def first_numbers(logs):
     """By worker and scope the number of its first batch: 0, as some versions of timely have it, or 1."""
     firsts = collections.defaultdict(lambda: 1)
     for log in logs:
-        for _, scope, it in log.batches:
+        for it in log.batches:
             if it.seq_no == 0:
-                firsts[it.source, scope] = 0
+                firsts[it.source, it.scope] = 0
     return firsts

@@ -215,6 +215,10 @@ class Dataflow:
             self.known_ways[output] = ways
         return self.known_ways[output]
 
+    def place(self, port):
+        """The location at which a port's entries are counted: its vertex, or a channel into it."""
+        return port.vertex if port.is_output else self.into[port][0].edge
+
     def delivered(self, port, time):
         """The inputs, with the time, at which a message arrives that is sent to an input: others than that,
         if it leaves a scope."""
@@ -274,8 +278,11 @@ def scopes_of(logs):
     around the root the operators alone may be told, which stand for whole dataflows."""
     found = {}
     for log in logs:
-        for line, scope, _ in log.channels + log.batches:
+        for line, scope, _ in log.channels:
             found.setdefault(scope, (log.path, line))
+        for it in log.batches:
+            if it.scope not in found:
+                found[it.scope] = log.path, it.line
     for log in logs:
         for line, scope, _ in log.operators:
             if not any(scope == it[: len(scope)] for it in found):
@@ -291,8 +298,8 @@ def scopes_of(logs):
 def depth_of(logs, address):
     """How many counters the times of a scope have; None if there are no times."""
     for log in logs:
-        for _, scope, batch in log.batches:
-            for it in batch.messages + batch.internal if scope == address else ():
+        for batch in log.batches:
+            for it in batch.messages + batch.internal if batch.scope == address else ():
                 if type(it) is list and len(it) == 4 and type(it[2]) is list and it[2]:
                     return len(it[2]) - 1
     return None

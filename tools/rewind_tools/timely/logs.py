@@ -21,6 +21,8 @@ CHANNELS_HAS = {"source", "target"}
 PROGRESS_HAS = {"is_send", "source", "seq_no", "messages", "internal"}
 PROGRESS_ALL = PROGRESS_HAS | ANY
 MOST_WORKERS = tool.MOST["processors"]
+# The member from which on workers log a batch alike; and what makes an object of what stands before it.
+SHARED, LAST = b'"source"', b'"source":0}'
 # After how many lines it may be said how far the reading is.
 EACH = 1_000
 
@@ -70,7 +72,7 @@ class Channel(NamedTuple):
 class Batch:
     """Progress that a worker sent, or received: entries [node, port, time, difference]. `log` and `line` say
     where it stands, `seq_no` is its number there, `index` the one among the sender's of its scope, from 1,
-    and `number` the one among all of them."""
+    and `number` the one among all that the sender sent; None, if it sent none such."""
 
     __slots__ = ("log", "line", "ns", "is_send", "source", "seq_no", "messages", "internal")
     __slots__ += ("scope", "index", "number")
@@ -154,11 +156,11 @@ def check_batch(value):
 
 
 class Reader:
-    """Reads one file. Equal entries of batches are one object for all files, since each batch is logged by
-    all workers."""
+    """Reads one file. Each batch is logged by all workers: so equal entries are one object for all files,
+    and the part of a line from SHARED on is read once (`known`)."""
 
-    def __init__(self, path, entries):
-        self.log, self.entries = Log(path), entries
+    def __init__(self, path, entries, known):
+        self.log, self.entries, self.known = Log(path), entries, known
 
     def read(self, report):
         trace, log = Trace(self.log.path, None), self.log
@@ -167,12 +169,23 @@ class Reader:
             if number % EACH == 0:
                 report(f"lines of {log.path} read", number, log.count)
             try:
-                self.line(number, json.loads(str(text, "utf-8")))
+                self.line(number, self.value(text))
             except (ValueError, RecursionError):
                 raise Unreadable(log.path, number, "it is not JSON") from None
             except NoEvent as why:
                 raise Unreadable(log.path, number, str(why)) from None
         return log
+
+    def value(self, text):
+        """A line's value."""
+        own, _, shared = text.partition(SHARED)
+        try:
+            members = self.known.get(shared)
+            if members is None:
+                members = self.known[shared] = json.loads(str(b"{" + SHARED + shared, "utf-8"))
+            return json.loads(str(own + LAST, "utf-8")) | members
+        except (ValueError, TypeError):
+            return json.loads(str(text, "utf-8"))  # a line of another form, or none
 
     def line(self, number, value):
         if not isinstance(value, dict) or not isinstance(value.get("event"), str):
@@ -182,7 +195,7 @@ class Reader:
             check_batch(value)
             log.members += 0 if value.keys() <= PROGRESS_ALL else len(value.keys() - PROGRESS_ALL)
             scope = scope_of(value)
-            log.batches.append((number, scope, self.batch(number, value, scope)))
+            log.batches.append(self.batch(number, value, scope))
         elif event == OPERATES:
             log.operators.append((number, scope_of(value), operator_of(value)))
             log.members += len(value.keys() - OPERATES_HAS - ANY)
@@ -207,8 +220,8 @@ class Reader:
 
 def read(paths, report):
     """The logs by worker, those that are not given without a path."""
-    entries = {}
-    found = [Reader(path, entries).read(report) for path in paths]
+    entries, known = {}, {}
+    found = [Reader(path, entries, known).read(report) for path in paths]
     if not any(it.operators for it in found):
         raise Unreadable(found[0].path, None, f"no file has an event {OPERATES}")
     by_worker = {}
@@ -216,13 +229,14 @@ def read(paths, report):
         if log.worker is not None:
             earlier = by_worker.setdefault(log.worker, log)
             if earlier is not log:
-                line = next(number for number, _, it in log.batches if it.is_send)
+                line = next(it.line for it in log.batches if it.is_send)
                 raise Unreadable(log.path, line, f"worker {log.worker} sends, and in {earlier.path}, too")
     add_silent(found, by_worker)
-    sources = {it.source: (log, number) for log in found for number, _, it in log.batches}
+    sources = {it.source: it for log in found for it in log.batches}
     if max(sources, default=0) >= MOST_WORKERS:
-        log, number = sources[max(sources)]
-        raise Unsupported(log.path, number, f"worker {max(sources)}; at most {MOST_WORKERS} workers can be")
+        it = sources[max(sources)]
+        why = f"worker {max(sources)}; at most {MOST_WORKERS} workers can be"
+        raise Unsupported(it.log.path, it.line, why)
     for worker in range(max(sources.keys() | by_worker.keys()) + 1):
         by_worker.setdefault(worker, Log(None, worker))
     return [by_worker[worker] for worker in sorted(by_worker)]

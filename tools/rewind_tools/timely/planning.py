@@ -3,7 +3,8 @@ broadcasts and receives.
 
     planner = Planner(dataflow, progress, report)
     planner.plan()                     NoOrder, if the batches wait for each other in each order tried
-    planner.lines(worker)              a worker's trace: Steps, as a follower executes them
+    planner.all_steps()                the Steps of all traces, in an order in which each can be executed
+    planner.right(steps)               those before the one of each worker that no run can have
     planner.left()                     messages that no batch says are consumed: Sent, with `left` of them
     planner.untold                     Untold messages: consumed, and no batch says that they were produced
     planner.workers[1].born[point]     the batch since which a worker holds a capability; None: the start
@@ -26,7 +27,7 @@ from rewind_tools.timely.steps import MOST_EXACT, Steps
 MOST_PLANS = 20
 FROM_START = None
 # A change that no step makes.
-OTHER = {("", 0): 1}
+OTHER = {("", (0,)): 1}
 
 
 class NoOrder(Exception):
@@ -133,11 +134,12 @@ class Worker:
         self.born, self.gone = {(it, first_time(it)): FROM_START for it in dataflow.outputs}, {}
         batches = {scope: [it for it in self.sends if it.scope == scope] for scope in dataflow.scopes}
         self.next = [Pending(self, its, scope) for scope, its in batches.items()]
-        self.has_stopped, self.had = False, 0  # how many capabilities there were at a wrong entry
+        # a step that no run can have, which ends its trace; how many capabilities there were at its entry
+        self.wrong, self.had = None, 0
         # by its number what the model moves with a batch
         self.moved = {}
-        # the trace, and what it has received since its last broadcast
-        self.lines, self.late = [], []
+        # what it has received since its last broadcast
+        self.late = []
 
     @property
     def is_done(self):
@@ -156,25 +158,37 @@ def first_time(port):
     return (0,) * (port.depth + 1) if port.depth else 0
 
 
+class Located(dict):
+    """By a port and a time of the logs the location and the time that the program has for it."""
+
+    def __init__(self, dataflow, times):
+        super().__init__()
+        self.dataflow, self.times = dataflow, times
+
+    def __missing__(self, point):
+        port, time = point
+        self[point] = found = self.dataflow.place(port), self.times[time].stamp
+        return found
+
+
 class Planner:
     def __init__(self, dataflow, progress, report):
         self.dataflow, self.progress, self.report = dataflow, progress, report
         self.steps = Steps(progress.epochs)
+        self.located = Located(dataflow, self.steps.times)
         self.workers, self.pools, self.untold = [], {}, []
-        self.many = {
-            point
-            for change in progress.changes.values()
-            for counts in (change.takes, change.delivered)
-            for point, n in counts.items()
-            if n > MOST_EXACT
-        }
+        # the traces so far, in the order in which they were planned: Steps, and messages that are Sent
+        self.made = []
+        self.many, self.totals, self.count = set(), {}, len(progress.changes)
+        for change in progress.changes.values():
+            for sign, counts in ((1, change.delivered), (-1, change.takes)):
+                for point, n in counts.items():
+                    self.totals[point] = self.totals.get(point, 0) + sign * n
+                    if n > MOST_EXACT:
+                        self.many.add(point)
         # by a batch and a message that it consumes, the batches that consume theirs before it; and whether
         # workers may have made more messages that no batch tells than are missing, and consumed as many
         self.after, self.is_generous = {}, False
-        self.totals, self.count = collections.Counter(), len(progress.changes)
-        for change in progress.changes.values():
-            self.totals.update(change.delivered)
-            self.totals.subtract(change.takes)
 
     def plan(self):
         for self.is_generous in (False, True):
@@ -193,15 +207,15 @@ class Planner:
         self.begin()
         while any([self.turn(it) for it in self.workers]) or self.unblock():
             self.report("batches explained", sum(it.sent for it in self.workers), self.count)
-        left = [it for it in self.workers if not it.is_done and not it.has_stopped]
+        left = [it for it in self.workers if not it.is_done and not it.wrong]
         for it in left:
             self.explain(it.pending())  # which may be wrong, too
-        if left and not any(it.has_stopped for it in self.workers):
+        if left and not any(it.wrong for it in self.workers):
             self.stop_unjoined([it for worker in left for it in worker.next if it.batch])
 
     def begin(self):
         self.workers = [Worker(index, its, self.dataflow) for index, its in enumerate(self.progress.events)]
-        self.pools = {}
+        self.pools, self.made = {}, []
         self.missing = {point: -n for point, n in self.totals.items() if n < 0}
         self.surplus = {point: n for point, n in self.totals.items() if n > 0}
         self.untold = []
@@ -229,24 +243,20 @@ class Planner:
 
     def turn(self, worker):
         """Plans what a worker does up to its next broadcast; whether there was anything."""
-        if worker.has_stopped:
+        if worker.wrong:
             return False
-        moved = any([self.make(it, False) for it in worker.next])
-        while worker.at < len(worker.events) and not worker.has_stopped:
+        moved = any([self.make(it, False) for it in worker.next if it.rises or it.makes])
+        while worker.at < len(worker.events) and not worker.wrong:
             is_send, batch = worker.events[worker.at]
             if is_send:
                 return self.complete(worker.pending()) or moved
-            number = self.number_of(worker, batch)
-            if self.workers[batch.source].sent < number and self.is_next(worker, batch):
+            sender = self.workers[batch.source]
+            number = batch.number or len(sender.sends) + 1
+            if sender.sent < number and self.is_next(worker, batch):
                 return moved
             self.receive(worker, batch, number)
             moved = True
         return moved
-
-    def number_of(self, worker, batch):
-        """The number of a batch that a worker received among all that its sender sent."""
-        sent = self.progress.by_index.get((batch.source, batch.scope, batch.index))
-        return sent.number if sent else len(self.workers[batch.source].sends) + 1
 
     def is_next(self, worker, batch):
         """Whether a batch is the next that a worker receives of its sender in its scope."""
@@ -257,17 +267,21 @@ class Planner:
         there."""
         if not self.explain(pending):
             return False
-        if not pending.worker.has_stopped:
+        if not pending.worker.wrong:
             self.broadcast(pending)
         return True
 
     def explain(self, pending):
         """Plans the rest of the steps of a worker's batch, if all messages that it consumes are there."""
-        if not all(self.is_there(pending, *it) for it in pending.takes.items()):
-            return False
-        self.take(pending)
-        self.make(pending, False)
-        self.make(pending, True)
+        for point, count in pending.takes.items():
+            if not self.is_there(pending, point, count):
+                return False
+        for point, count in pending.takes.items():
+            self.take_from(pending, point, count)
+        pending.takes = {}
+        for is_far in (False, True):
+            if pending.rises or pending.makes:
+                self.make(pending, is_far)
         wrong = next(iter([*pending.makes, *pending.rises]), None)
         if wrong or not self.finish(pending):
             self.stop(pending, wrong or pending.wrong)
@@ -278,13 +292,15 @@ class Planner:
         worker.at += 1
         worker.sent += 1
         pending.sent += 1
-        step = self.steps.broadcast(worker, batch, worker.sent + batch.index - pending.sent, change)
-        worker.lines += [*worker.late, step]
+        lost = batch.index - pending.sent
+        step = self.steps.broadcast(worker, batch, worker.sent + lost, change)
+        self.made += worker.late
+        self.made.append(step)
         worker.late = []
         if self.progress.differing:
             worker.moved[worker.sent] = change
-        worker.has_stopped = batch.index != pending.sent
-        step.wanted = batch.seq_no - batch.index + pending.sent
+        if lost:
+            worker.wrong, step.wanted = step, batch.seq_no - lost
         self.next_batch(pending)
 
     def receive(self, worker, batch, number):
@@ -293,71 +309,68 @@ class Planner:
         worker.at += 1
         worker.indexes[key] += 1
         lost = batch.index - worker.indexes[key]
-        worker.has_stopped = bool(apart) or bool(lost)
-        if worker.has_stopped:
+        if apart or lost:
             number = worker.got[batch.source] + 1 + lost
             step = self.steps.receive(worker, batch, number, self.changed(batch, apart) if apart else None)
-            step.wanted = batch.seq_no - lost
+            worker.wrong, step.wanted = step, batch.seq_no - lost
             worker.late.append(step)
             return
-        worker.early[batch.source, number] = batch
-        while (batch.source, worker.got[batch.source] + 1) in worker.early:
-            worker.got[batch.source] += 1
-            number = worker.got[batch.source]
-            its = worker.early.pop((batch.source, number))
-            worker.late.append(self.steps.receive(worker, its, number, None))
+        source, got = batch.source, worker.got[batch.source]
+        worker.early[source, number] = batch
+        while its := worker.early.pop((source, got + 1), None):
+            got += 1
+            worker.late.append(self.steps.receive(worker, its, got, None))
+        worker.got[source] = got
 
     def changed(self, batch, apart):
         """The change of a batch that was received as another than it was sent."""
-        moved = self.workers[batch.source].moved.get(self.number_of(None, batch))
+        moved = self.workers[batch.source].moved.get(batch.number)
         if moved is None:
             return OTHER
         change = collections.Counter(moved)
-        change.update({self.point(*it): n for it, n in apart.items()})
+        change.update({self.located[it]: n for it, n in apart.items()})
         return change
-
-    def point(self, port, time):
-        """The location of an entry, with its time."""
-        return (port.vertex if port.is_output else self.dataflow.into[port][0].edge), time
 
     def model_change(self, pending):
         """What the model moves with a worker's batch: a capability counts once, however many hold it. None,
         if its messages are not followed one by one, or those of other scopes beside them."""
-        messages = self.progress.changes[pending.batch].messages()
         if self.dataflow.is_nested:
             return None
-        if any(point in self.many or len(self.dataflow.into[point[0]]) > 1 for point in messages):
+        messages, into = self.progress.changes[pending.batch].messages(), self.dataflow.into
+        if self.many and not self.many.isdisjoint(messages) or any(len(into[it]) > 1 for it, _ in messages):
             return None
-        change = {self.point(*it): n for it, n in messages.items()}
-        change.update({self.point(*it): n for it, n in pending.turned.items()})
-        return change
+        located, points = self.located, [*messages.items(), *pending.turned.items()]
+        return {located[it]: n for it, n in points}
 
     def make(self, pending, is_far):
         """Plans what a batch of a worker produces, and its new capabilities: from capabilities at the same
         operator, or, if `is_far`, from others that lead there. Whether there were any."""
         moved = False
         for point in list(pending.rises):
-            moved |= self.raise_to(pending, *point, is_far)
+            moved |= self.raise_to(pending, point, is_far)
         for point in list(pending.makes):
-            moved |= self.produce(pending, *point, is_far)
+            moved |= self.produce(pending, point, is_far)
         return moved
 
-    def raise_to(self, pending, output, time, is_far):
-        since, worker = self.capability(pending, output, time, is_far), pending.worker
+    def raise_to(self, pending, point, is_far):
+        (output, time), worker = point, pending.worker
+        since = self.capability(pending, output, time, is_far)
         if since is None:
             return False
         if since != time:
-            worker.lines.append(self.steps.keep(pending, output, since, time, (output, time)))
-        pending.lent.get(output, set()).discard(time)
-        worker.held[output].set(time, pending.rises.pop((output, time)))
-        worker.born[output, time], pending.turned[output, time] = pending.batch, 1
+            self.made.append(self.steps.keep(pending, output, since, time, point))
+        if output in pending.lent:
+            pending.lent[output].discard(time)
+        worker.held[output].set(time, pending.rises.pop(point))
+        worker.born[point], pending.turned[point] = pending.batch, 1
         return True
 
-    def produce(self, pending, target, time, is_far):
+    def produce(self, pending, point, is_far):
+        target, time = point
         for hop in self.dataflow.into[target]:
             since = self.capability(pending, hop.source, time, is_far)
             if since is not None:
-                self.send(pending, hop, since, time, pending.makes.pop((target, time)))
+                self.send(pending, hop, since, time, pending.makes.pop(point))
                 return True
         return False
 
@@ -366,24 +379,27 @@ class Planner:
             self.send_out(pending, hop, since, time, count)
             return
         sent = Sent(pending, hop, since, time, count)
-        pending.worker.lines.append(sent)
+        self.made.append(sent)
         self.pools.setdefault((hop.target, time), []).append(sent)
 
     def send_out(self, pending, hop, since, time, count):
         """Plans that messages leave a scope: one for all of them, from which they are sent outside."""
-        worker, inside, outside = pending.worker, hop.target, hop.target.across
+        inside, outside = hop.target, hop.target.across
         later = across(inside, time)
-        worker.lines += self.steps.hop(pending, hop, since, time)
-        worker.lines += self.steps.cross(pending, inside.edges[0], time, later)
+        self.made += self.steps.hop(pending, hop, since, time)
+        self.made += self.steps.cross(pending, inside.edges[0], time, later)
         for on in outside.edges:
             self.send(pending, on, later, later, count)
-        worker.lines.append(self.steps.release(pending, outside, later))
+        self.made.append(self.steps.release(pending, outside, later))
 
     def capability(self, pending, output, time, is_far):
         """The time of a capability of a worker at an output, at or before a time. If it has none, messages
         lead to one at that time, if they can; else None."""
-        for way in self.dataflow.ways(output):
-            if not is_far and way.on and way.on.hop:
+        since = self.there(pending, output, time)
+        if since is not None:
+            return since
+        for way in self.dataflow.ways(output)[1:]:
+            if not is_far and way.on.hop:
                 return None
             start = delayed(time, -way.delay)
             since = None if start is None else self.there(pending, way.source, start)
@@ -391,7 +407,7 @@ class Planner:
                 continue
             for hop, rest in way.hops():
                 its = delayed(time, -rest)
-                pending.worker.lines += self.steps.hop(pending, hop, since, its)
+                self.made += self.steps.hop(pending, hop, since, its)
                 since, there = its, pending.lent if hop.target.is_output else pending.taken
                 there.setdefault(hop.target, set()).add(its)
             return since
@@ -409,7 +425,7 @@ class Planner:
 
     def is_there(self, pending, point, count):
         """Whether so many messages can be taken."""
-        there = sum(it.left for it in self.pools.get(point, ()))
+        there = sum([it.left for it in self.pools.get(point, ())])
         return there >= count and (not self.after or self.is_turn(pending, point))
 
     def is_turn(self, pending, point):
@@ -428,18 +444,22 @@ class Planner:
         for point, count in list(pending.takes.items()):
             if self.is_there(pending, point, 1):
                 moved = True
-                left = self.take_from(pending, self.pools[point], count)
+                left = self.take_from(pending, point, count)
                 pending.takes[point] = left
                 if not left:
                     del pending.takes[point]
         return moved
 
-    def take_from(self, pending, pool, count):
-        """Takes messages of a pool, those of the worker itself first; how many are wanting."""
-        worker = pending.worker
+    def take_from(self, pending, point, count):
+        """Takes messages that are there, those of the worker itself first; how many are wanting."""
+        worker, pool = pending.worker, self.pools[point]
         for sent in sorted(pool, key=lambda it: it.worker is not worker) if len(pool) > 1 else pool:
             count -= self.take_some(pending, sent, count)
-        pool[:] = [it for it in pool if it.left]
+        pool = [it for it in pool if it.left]
+        if pool:
+            self.pools[point] = pool
+        else:
+            del self.pools[point]
         return count
 
     def take_some(self, pending, sent, count):
@@ -453,10 +473,10 @@ class Planner:
         records = 1 if point in self.many else n
         before, record = sent.given(worker, self.steps)
         sent.taken[worker.index] = before + records, record
-        worker.lines += self.steps.takes(pending, record, point, records)
+        self.made += self.steps.takes(pending, record, sent.time, point, records)
         if target.side == ENTRY:
             inside = across(target, sent.time)
-            worker.lines += self.steps.cross(pending, target.edges[0], sent.time, inside, records)
+            self.made += self.steps.cross(pending, target.edges[0], sent.time, inside, records)
             pending.lent.setdefault(target.across, set()).add(inside)
         else:
             pending.taken.setdefault(target, set()).add(sent.time)
@@ -468,7 +488,7 @@ class Planner:
         worker = pending.worker
         for there in (pending.taken, pending.lent):
             for port, times in there.items():
-                worker.lines += [self.steps.release(pending, port, time) for time in times]
+                self.made += [self.steps.release(pending, port, time) for time in times]
             there.clear()
         for output, time, n in pending.falls:
             held = worker.held[output]
@@ -478,7 +498,7 @@ class Planner:
                 continue
             if worker.had:
                 held.set(time, 0)
-                worker.lines.append(self.steps.release(pending, output, time))
+                self.made.append(self.steps.release(pending, output, time))
                 pending.turned[output, time], worker.gone[output, time] = -1, pending.batch
             if n > worker.had:
                 pending.wrong = output, time
@@ -495,10 +515,9 @@ class Planner:
         else:
             hop = self.dataflow.into[port][0]
             record = self.steps.record(hop, worker.index, time)
-            step = self.steps.send(pending, hop, time, record)
-            step.entry = point
-        worker.lines.append(step)
-        worker.has_stopped = True
+            step = self.steps.send(pending, hop, time, time, record, 1, point)
+        self.made.append(step)
+        worker.wrong = step
 
     def stop_unjoined(self, left):
         """Says which of the batches that are left has an entry that nothing explains."""
@@ -515,7 +534,7 @@ class Planner:
 
     def unblock(self):
         """Helps workers that all wait; whether any can go on."""
-        blocked = [it for it in self.workers if not it.is_done and not it.has_stopped]
+        blocked = [it for it in self.workers if not it.is_done and not it.wrong]
         blocked = [it for worker in blocked for it in worker.next if it.batch]
         wanted = {point for it in blocked for point in it.takes}
         blocked.sort(key=lambda it: wanted.isdisjoint(it.makes))
@@ -523,7 +542,7 @@ class Planner:
             if any(map(step, blocked)):
                 return True
         waiting = [it for it in blocked if it.takes]
-        if waiting and not any(it.has_stopped for it in self.workers):
+        if waiting and not any(it.wrong for it in self.workers):
             self.take_otherwise(waiting)
             if not self.is_generous:
                 raise NoOrder([it.batch for it in waiting])
@@ -568,7 +587,7 @@ class Planner:
 
     def can_have_made(self, worker, other, point):
         """Whether a worker can have made a message that another consumed, and have sent nothing since."""
-        if worker is other.worker or not worker.is_done or worker.has_stopped:
+        if worker is other.worker or not worker.is_done or worker.wrong:
             return False
         its = other.batch
         known = [it for _, it in self.before_last_send(worker) if it.source == its.source]
@@ -627,18 +646,29 @@ class Planner:
         if point:
             hop, worker = self.dataflow.into[point[0]][0], pending.worker
             record = self.steps.record(hop, worker.index, point[1])
-            worker.lines += self.steps.takes(pending, record, point)
-            worker.has_stopped = True
+            (worker.wrong,) = made = self.steps.takes(pending, record, point[1], point)
+            self.made += made
         return bool(point)
 
-    def lines(self, worker):
-        """A worker's trace."""
-        made = []
-        for it in worker.lines + worker.late:
-            made += self.steps.sent(it, (it.hop.target, it.time) in self.many) if type(it) is Sent else [it]
-        for it in made:
-            it.number = it.batch.line if it.batch else 0
-        return made
+    def all_steps(self):
+        """The traces of all workers, in an order in which the protocol may allow them."""
+        found = []
+        for it in self.made:
+            if type(it) is Sent:
+                found += self.steps.sent(it, (it.hop.target, it.time) in self.many)
+            else:
+                found.append(it)
+        return [*found, *(it for worker in self.workers for it in worker.late)]
+
+    def right(self, steps):
+        """Of all steps those before the wrong one of their worker."""
+        wrong, stopped, found = {it.wrong for it in self.workers if it.wrong}, set(), []
+        for it in steps if wrong else ():
+            if it in wrong:
+                stopped.add(it.worker)
+            if it.worker not in stopped:
+                found.append(it)
+        return found if wrong else steps
 
     def unconsumed(self, point):
         """How many messages no batch says are consumed."""

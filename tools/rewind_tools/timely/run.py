@@ -51,10 +51,11 @@ class Run:
             raise logs.Unsupported(batch.log.path, batch.line, str(why)) from why
         except Unjoined as why:
             raise logs.Unsupported(why.batch.log.path, why.batch.line, unjoined_words(why)) from why
-        lines = [self.planner.lines(it) for it in self.planner.workers]
+        steps = self.planner.all_steps()
+        lines = [[it for it in steps if it.worker == log.worker] for log in self.logs]
         merging = Merging(lines, Places(self.program.graph, len(lines)))
         self.follower = Follower(self.program, merging)
-        self.follower.follow()
+        self.follower.follow(self.planner.right(steps))
         self.ending = ending_of(self.follower, self.logs)
 
     @property

@@ -1,14 +1,16 @@
 """The steps of a planned trace, as a follower executes them.
 
     steps = Steps(times)
-    steps.rank[1790000000250]                     times by rank, since a script's epochs have 32 bits
-    steps.release(worker, port, time)             a Step
-    steps.sent(sent)                              the Steps that send messages of a Sent, one for each worker
+    steps.times[1790000000250].stamp              a time by rank, since a script's epochs have 32 bits
+    steps.release(pending, port, time)            a Step of a worker's pending batch
+    steps.sent(sent, False)                       the Steps that send messages of a Sent, one for each worker
                                                   that takes some
 
 A Step is a Line of a trace whose number is its batch's line; `entry` is the point that it is for. Every
 message has the value 0."""
-from rewind_tools.following.reading import NOTHING, NOTHING_OWN, Line
+from typing import NamedTuple
+
+from rewind_tools.following.reading import NOTHING, NOTHING_OWN, Line, Own
 from rewind_tools.timely.dataflow import delayed
 
 # How many values a send has at most; and how many messages of one entry are followed one by one.
@@ -18,107 +20,110 @@ MOST_VALUES, MOST_EXACT = 1_024, 64
 class Step(Line):
     __slots__ = ("batch", "entry", "wanted")
 
-    def __init__(self, worker, batch, word, text, entry):
-        self.worker, self.number, self.word, self.text = worker.index, 0, word, text
-        self.needs, self.makes, self.own = None, NOTHING, NOTHING_OWN
-        self.batch, self.entry = batch, entry
+    def __init__(self, worker, batch, word, text, entry, needs=None, makes=NOTHING, own=NOTHING_OWN):
+        self.worker, self.batch, self.number = worker.index, batch, batch.line if batch else 0
+        self.word, self.text, self.entry = word, text, entry
+        self.needs, self.makes, self.own = needs, makes, own
+
+
+class Time(NamedTuple):
+    """A time as a follower knows it, and as it stands in the brackets of a line."""
+
+    stamp: tuple
+    text: bytes
+
+
+class Times(dict):
+    """By a time of the logs that with its epoch's rank."""
+
+    def __init__(self, epochs):
+        super().__init__()
+        self.ranks = {epoch: rank for rank, epoch in enumerate(sorted(epochs))}
+
+    def __missing__(self, time):
+        epoch, *counters = time if type(time) is tuple else (time,)
+        stamp = self.ranks[epoch], *counters
+        self[time] = found = Time(stamp, ",".join(map(str, stamp)).encode())
+        return found
+
+
+class Numbers(dict):
+    """By a number what the own keys of a line say that has no other."""
+
+    def __missing__(self, number):
+        self[number] = found = Own(number, None, None, NOTHING_OWN.counted)
+        return found
 
 
 class Steps:
     """Makes Steps, which share what is equal, since there may be a million."""
 
     def __init__(self, epochs):
-        self.rank = {epoch: rank for rank, epoch in enumerate(sorted(epochs))}
-        self.stamps = {epoch: (rank,) for epoch, rank in self.rank.items()}
-        self.lists = {}
-        self.texts, self.owns = {}, {}
-
-    def stamp(self, time):
-        """A time with its epoch's rank."""
-        if time not in self.stamps:
-            self.stamps[time] = (self.rank[time[0]], *time[1:])
-        return self.stamps[time]
-
-    def list(self, stamp):
-        """What stands in the brackets of a line."""
-        if stamp not in self.lists:
-            self.lists[stamp] = ",".join(map(str, stamp)).encode()
-        return self.lists[stamp]
+        self.times, self.texts, self.owns = Times(epochs), {}, Numbers()
 
     def record(self, hop, to, time):
         """A message on a channel, as a follower knows it."""
-        return hop.edge, to, self.stamp(time), 0
+        return hop.edge, to, self.times[time].stamp, 0
 
-    def takes(self, pending, record, entry, count=1):
+    def takes(self, pending, record, time, entry, count=1):
         """Steps that take messages which are one record."""
-        edge, _, stamp, _ = record
         text = b'{"do":"take","p":%d,"edge":"%s","time":[%s],"value":0}'
-        text %= pending.worker.index, edge.encode(), self.list(stamp)
-        made = [Step(pending.worker, pending.batch, "take", text, entry) for _ in range(count)]
-        for it in made:
-            it.needs = record
-        return made
+        text %= pending.worker.index, record[0].encode(), self.times[time].text
+        return [Step(pending.worker, pending.batch, "take", text, entry, record)] * count
 
     def hop(self, pending, hop, since, time):
         """A message from a port to the next one of the same worker, where it arrives at a time: it is sent
         from a capability at `since`, taken, and taken again after each round by which the edge delays it."""
-        p, rounds = pending.worker.index, len(hop.rounds)
-        record = self.record(hop, p, delayed(time, -rounds))
-        made = [self.send(pending, hop, since, record), *self.takes(pending, record, None)]
+        p, first = pending.worker.index, delayed(time, -len(hop.rounds))
+        record = self.record(hop, p, first)
+        made = [self.send(pending, hop, since, first, record), *self.takes(pending, record, first, None)]
         for number, (_, edge) in enumerate(hop.rounds, 1):
-            record = edge, p, self.stamp(delayed(time, number - rounds)), 0
-            made += self.takes(pending, record, None)
+            later = delayed(first, number)
+            made += self.takes(pending, (edge, p, self.times[later].stamp, 0), later, None)
         return made
 
     def cross(self, pending, hop, time, later, count=1):
         """Messages that were taken at a scope's border cross it: they are taken on the other side."""
-        record, made = (hop.edge, pending.worker.index, self.stamp(later), 0), []
+        record, made = self.record(hop, pending.worker.index, later), []
         if hop.source.op == "opaque":
-            made = [self.send(pending, hop, time, record, count), self.release(pending, hop.source, time)]
-        return made + self.takes(pending, record, None, count)
+            made = [self.send(pending, hop, time, later, record, count)]
+            made.append(self.release(pending, hop.source, time))
+        return made + self.takes(pending, record, later, None, count)
 
-    def send(self, pending, hop, since, record, count=1):
-        _, to, stamp, _ = record
+    def send(self, pending, hop, since, time, record, count=1, entry=None):
         text = b'{"do":"send","p":%d,"vertex":"%s","time":[%s],"port":%d,"values":[%s],"at":[%s],"dest":%d}'
-        its = pending.worker.index, hop.source.vertex.encode(), self.list(self.stamp(since)), hop.port
-        text %= *its, b",".join([b"0"] * count), self.list(stamp), to
-        step = Step(pending.worker, pending.batch, "send", text, None)
-        step.makes = (record,) * count
-        return step
+        start, values = self.times[since].text, b"0" + b",0" * (count - 1)
+        its = pending.worker.index, hop.source.vertex.encode(), start, hop.port, values
+        text %= *its, self.times[time].text, record[1]
+        makes = (record,) * count
+        return Step(pending.worker, pending.batch, "send", text, entry, None, makes)
 
     def release(self, pending, port, time, entry=None):
         text = b'{"do":"release","p":%d,"vertex":"%s","time":[%s]}'
-        its = pending.worker.index, port.vertex.encode(), self.list(self.stamp(time))
-        return Step(pending.worker, pending.batch, "release", text % its, entry)
+        text %= pending.worker.index, port.vertex.encode(), self.times[time].text
+        return Step(pending.worker, pending.batch, "release", text, entry)
 
     def keep(self, pending, port, since, time, entry):
         """A later capability beside one that is held."""
         text = b'{"do":"release","p":%d,"vertex":"%s","time":[%s],"to":[%s],"keep":true}'
-        times = self.list(self.stamp(since)), self.list(self.stamp(time))
-        its = pending.worker.index, port.vertex.encode(), *times
-        return Step(pending.worker, pending.batch, "release", text % its, entry)
+        times = self.times[since].text, self.times[time].text
+        text %= pending.worker.index, port.vertex.encode(), *times
+        return Step(pending.worker, pending.batch, "release", text, entry)
 
     def broadcast(self, worker, batch, number, change):
         text = b'{"do":"broadcast","p":%d}' % worker.index
-        step = Step(worker, batch, "broadcast", self.texts.setdefault(text, text), None)
-        step.own = self.own(number, change)
-        return step
+        return Step(worker, batch, "broadcast", text, None, None, NOTHING, self.own(number, change))
 
     def receive(self, worker, batch, number, change):
-        text = b'{"do":"receive","from":%d,"to":%d}' % (batch.source, worker.index)
-        step = Step(worker, batch, "receive", self.texts.setdefault(text, text), None)
-        step.needs = batch.source
-        step.own = self.own(number, change)
-        return step
+        ends = batch.source, worker.index
+        text = self.texts.get(ends)
+        if text is None:
+            text = self.texts[ends] = b'{"do":"receive","from":%d,"to":%d}' % ends
+        return Step(worker, batch, "receive", text, None, ends[0], NOTHING, self.own(number, change))
 
     def own(self, number, change):
         """A batch's number and its change, as a follower compares them."""
-        if change is None:
-            if number not in self.owns:
-                self.owns[number] = NOTHING_OWN._replace(number=number)
-            return self.owns[number]
-        ranked = {(name, self.stamp(time)): n for (name, time), n in change.items()}
-        return NOTHING_OWN._replace(number=number, change=ranked)
+        return self.owns[number] if change is None else Own(number, change, None, NOTHING_OWN.counted)
 
     def sent(self, sent, are_many):
         """The steps that send messages; the worker itself gets those that nobody takes."""
@@ -129,6 +134,5 @@ class Steps:
         for count, record in sent.taken.values():
             for begin in range(0, count, MOST_VALUES):
                 n = min(count - begin, MOST_VALUES)
-                made.append(self.send(sent, sent.hop, sent.since, record, n))
-                made[-1].entry = entry
+                made.append(self.send(sent, sent.hop, sent.since, sent.time, record, n, entry))
         return made
