@@ -16,7 +16,7 @@ fn fault_of(alloc: Global, n: u32) -> Option<StartFault> {
 /// Checks the worked example *processor-counts*, of numbers that no words ask for.
 #[test]
 fn processor_counts(rt: HostRuntime) {
-    for n in [0, 17] {
+    for n in [0, 65] {
         assert!(rt; fault_of(rt.alloc(), n) == Some(StartFault::BadCount));
     }
 }
