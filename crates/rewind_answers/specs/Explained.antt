@@ -10,8 +10,8 @@ use Rattle.nd_protocol.specs.State.{ClusterState, view}
 use Rattle.nd_protocol.specs.declared.step.Step.{Step}
 use Rattle.nd_state_json.specs.StateText.{row, natural}
 use Rattle.nd_timeline.specs.Timeline.{TimelineValue, cluster_of}
-use Rattle.nd_timeline.specs.Faults.{code_of}
-use Rattle.nd_timeline.specs.declared.fault.Fault.TheVariants.{NoSuchPoint}
+use Rattle.nd_replies.specs.Faults.{code_of}
+use Rattle.nd_replies.specs.declared.fault.Fault.TheVariants.{NoSuchPoint}
 use Rattle.nd_why.specs.Account.{Account}
 use Rattle.nd_why.specs.Why.{IsWhy, IsFinishedBefore}
 use Rattle.nd_why.specs.declared.question.Question.{Question}

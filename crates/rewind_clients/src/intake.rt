@@ -13,8 +13,8 @@ ghost use Rattle.rewind_sessions.specs.Runs.{lists_of};
 ghost use Rattle.rewind_clients.specs.Intake.{ReadsLine, no_commands as no_commands_in, ordered, with_command};
 ghost use Rattle.rewind_clients.specs.Intakes.{intake_view, opening_replies, or_faulty, unstarted_view, version_of as version_in, Starts};
 
+use nd_commands::Command;
 use nd_session::State;
-use nd_timeline::Command;
 use rewind_answers::{First, Started, answer_first};
 use rewind_forms::{LineFault, Version, version_of};
 use rewind_lines::Reading;

@@ -2,7 +2,7 @@
 use Rattle.std.specs.Prelude.{Result, Ok}
 use Rattle.serde_json.specs.Data.{Data}
 use Rattle.nd_graph.specs.Graph.{Dataflow}
-use Rattle.nd_timeline.specs.declared.command.Command.TheVariants.{Forward}
+use Rattle.nd_commands.specs.declared.command.Command.TheVariants.{Forward}
 use Rattle.rewind_forms.specs.Forms.{given, after}
 use Rattle.rewind_forms.specs.Grammar.{form_of}
 use Rattle.rewind_forms.specs.Steps.{step_of}

@@ -8,8 +8,8 @@ use crate::commands::command_of;
 use crate::queries::query_of;
 use crate::steps::step_of;
 use crate::{Form, LineFault, Query, Version};
+use nd_commands::Command;
 use nd_graph::Graph;
-use nd_timeline::Command;
 use serde_json::Value;
 use std::alloc::Global;
 

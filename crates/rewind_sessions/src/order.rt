@@ -6,10 +6,10 @@ ghost use Rattle.rewind_forms.specs.Grammar.{form_of};
 ghost use Rattle.rewind_sessions.specs.Orders.{among, asks_query, is_query as is_query_in, order_of as order_in_value, order_in as order_in_line, code_of};
 
 use crate::numbers::without;
+use nd_commands::Command;
 use nd_graph::Graph;
 use nd_json::whole_at;
 use nd_time::Code;
-use nd_timeline::Command;
 use rewind_forms::{Asked, Form, LineFault, Version, asked_of};
 use rewind_lines::Reading;
 use serde_json::Value;
