@@ -11,7 +11,7 @@ ghost use Rattle.nd_timeline.specs.Timeline.{cluster_of};
 
 use crate::faulty_lines::line_fault;
 use crate::query::answer_query;
-use crate::stage::Script;
+use crate::stage::RunningScript;
 use nd_cluster::{Cluster, StartFault};
 use nd_commands::Command;
 use nd_graph::{Graph, GraphDraft, GraphFault};
@@ -187,7 +187,7 @@ fn answer_asked<R: Threads + Sync>(
 pub fn answer_later<R: Threads + Sync>(
     rt: &R,
     alloc: Global,
-    script: &mut Script,
+    script: &mut RunningScript,
     value: &Value,
     line: u64,
 ) -> Result<Vec<u8>, AllocError>

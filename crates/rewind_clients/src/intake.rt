@@ -26,7 +26,7 @@ use std::alloc::{AllocError, Global};
 
 /// A script that was read completely.
 #[derive(Drop)]
-pub struct Script {
+pub struct ReadScript {
     /// The version that the version line names, if there was one.
     pub opened: Option<Version>,
     /// The graph's reply.
@@ -48,7 +48,7 @@ pub enum Intake {
     /// A line after the graph's is faulty, and this is its reply.
     Faulty(ErrorReply),
     /// A graph, and clients' commands.
-    Whole(Script),
+    Whole(ReadScript),
 }
 
 // Returns an empty list of commands for each client.
@@ -83,7 +83,7 @@ fn start(
     let version = opened.unwrap_or(Version::First);
     match answer_first(alloc, version, options.processors, value)? {
         First::Refused(error) => Ok(Intake::Refused(error)),
-        First::Started(Started { reply, state }) => Ok(Intake::Whole(Script {
+        First::Started(Started { reply, state }) => Ok(Intake::Whole(ReadScript {
             opened,
             reply,
             state,
@@ -145,7 +145,7 @@ fn add_command(commands: &mut Vec<Vec<Command>>, order: Order) -> Result<(), All
     Ok(())
 }
 
-impl Script {
+impl ReadScript {
     // Processes a line that is not blank. Returns the reply if the line is faulty.
     fn read_order(
         &mut self,
