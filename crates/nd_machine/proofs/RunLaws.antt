@@ -84,11 +84,6 @@ module _ {A : Type 0} (first : ChoiceIsFirst A) (idle : IdleMeansRefused A) (onl
           All-contains (λ y. IsEnabled (cluster_of m) y → ⊥) (candidates_by (cluster_of m) lot only) x turned
           (chosen_contained (cluster_of m) (candidates_by (cluster_of m) lot only) x is) (chosen_enabled (cluster_of m) (candidates_by (cluster_of m) lot only) x is)
 
-  -- after a step of a run that did not stop no breakpoint holds
-  no_hit_after : (n : ℕ) (m new : TimelineValue A) → HasRun only seed breaks (suc n) m new → NoHit breaks (cluster_of new)
-  unfolding HasRun
-  no_hit_after n m new h = h.no_hit
-
   -- a run of n steps that goes on
   record GoesOn (n : ℕ) (m : TimelineValue A) : Type 0 where
     mid : TimelineValue A
