@@ -11,7 +11,7 @@ use Rattle.nd_history.proofs.WalkLemmas.{no_hit_more}
 use Rattle.nd_history.specs.History.{ShowsIf, AreChanges, none_yet, no_change, one_change, AreFirst, AreAll, IsHistory}
 use Rattle.nd_timeline.specs.declared.changed.Changed.{Changed}
 use Rattle.nd_history.specs.declared.change_list.ChangeList.{ChangeList}
-use Rattle.nd_history.specs.declared.turn_list.Turns.{Turns}
+use Rattle.nd_history.specs.declared.turn_list.TurnList.{TurnList}
 
 abbrev pub positions_of : List Changed → List ℕ
 positions_of cs = map (λ c. c.position) cs
@@ -116,7 +116,7 @@ module _ (Hit : ℕ → Type 0) where
   listed_if false lo hi cs are = record { few = omega (arith, are.few, length-map cs (λ (c : Changed). c.position)); all = (turns_of are.all).1 }
 
   -- the history of whether there is a hit is what is listed of the turns
-  pub listed_of : {A : Type 0} (lo hi : ℕ) (told : ChangeList A) (t : Turns A) → IsTrue t.at_lo ↔ Hit lo → t.positions ≡ positions_of told.changes → t.more ≡ told.more
+  pub listed_of : {A : Type 0} (lo hi : ℕ) (told : ChangeList A) (t : TurnList A) → IsTrue t.at_lo ↔ Hit lo → t.positions ≡ positions_of told.changes → t.more ≡ told.more
       → IsHistory (λ i. ShowsIf (Hit i)) lo hi told → AreListed Hit lo hi t
   listed_of lo hi told t at_lo positions more is =
       let Listed : Bool → List ℕ → Type 0 = λ b ks. MatchBool b (AreFirstTurns Hit lo hi ks) (AreAllTurns Hit lo hi ks) in

@@ -7,8 +7,8 @@ use Rattle.nd_protocol.specs.declared.refusal.Refusal.TheVariants as refusal
 use Rattle.nd_steps.specs.Integers.{changed}
 use Rattle.nd_steps.specs.Effect.{lists_of, effect_of, altered_count}
 use Rattle.nd_timeline.specs.Timeline.{TimelineValue, cluster_of, moved_to}
-use Rattle.nd_timeline.specs.Faults as faults
-use Rattle.nd_timeline.specs.declared.fault.Fault.TheVariants as fault
+use Rattle.nd_replies.specs.Faults as faults
+use Rattle.nd_replies.specs.declared.fault.Fault.TheVariants as fault
 use Rattle.nd_history.specs.declared.effects.StepEffect.{StepEffect}
 use Rattle.nd_history.specs.declared.effects.EffectFault.{EffectFault}
 use Rattle.nd_history.specs.declared.effects.EffectFault.TheVariants.{NoSuchPoint, Memory}

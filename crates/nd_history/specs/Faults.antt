@@ -3,8 +3,8 @@ use Rattle.std.specs.Prelude.{codes}
 use Rattle.nd_time.specs.Code.{Code, coded}
 use Rattle.nd_protocol.specs.Refusals as refusals
 use Rattle.nd_protocol.specs.declared.refusal.Refusal.TheVariants as refusal
-use Rattle.nd_timeline.specs.Faults as faults
-use Rattle.nd_timeline.specs.declared.fault.Fault.TheVariants as fault
+use Rattle.nd_replies.specs.Faults as faults
+use Rattle.nd_replies.specs.declared.fault.Fault.TheVariants as fault
 use Rattle.nd_history.specs.declared.fault.SearchFault.{SearchFault}
 use Rattle.nd_history.specs.declared.fault.SearchFault.TheVariants.{BadRange, NoWorkers, NoSuchPoint, Memory, Missing}
 use Rattle.nd_history.specs.declared.fault.ChangesFault.{ChangesFault}

@@ -2,7 +2,7 @@
 use Rattle.std.specs.Prelude.{◌≡◌, ◌↔◌, ℕ, ◌-◌, ◌<◌, ◌≤◌, ◌⊎◌, List, length, slice_get, Contains, AllPairs, Option, Some, cond, IsTrue, MatchBool}
 use Rattle.nd_time.specs.Limits.{max_told}
 use Rattle.nd_timeline.specs.Timeline.{TimelineValue}
-use Rattle.nd_history.specs.declared.turn_list.Turns.{Turns}
+use Rattle.nd_history.specs.declared.turn_list.TurnList.{TurnList}
 use Rattle.nd_history.specs.declared.fault.TurnsFault.{TurnsFault}
 use Rattle.nd_history.specs.declared.fault.TurnsFault.TheVariants.{BadRange, NoSuchPoint, Memory}
 
@@ -34,12 +34,12 @@ pub record AreAllTurns (Hit : ℕ → Type 0) (lo hi : ℕ) (ks : List ℕ) : Ty
   pub all : AreTurns Hit lo hi ks
 
 -- what is listed of the turns of a range, and whether there is a hit at its first position
-pub record AreListed {A : Type 0} (Hit : ℕ → Type 0) (lo hi : ℕ) (turns : Turns A) : Type 0 where
+pub record AreListed {A : Type 0} (Hit : ℕ → Type 0) (lo hi : ℕ) (turns : TurnList A) : Type 0 where
   pub at_lo : IsTrue turns.at_lo ↔ Hit lo
   pub listed : MatchBool turns.more (AreFirstTurns Hit lo hi turns.positions) (AreAllTurns Hit lo hi turns.positions)
 
 -- the least hit of the range by its turns: its first position if there is a hit, otherwise the first turn
-abbrev pub first_hit_of : {A : Type 0} → ℕ → Turns A → Option ℕ
+abbrev pub first_hit_of : {A : Type 0} → ℕ → TurnList A → Option ℕ
 first_hit_of lo turns = cond turns.at_lo (Some lo) (slice_get turns.positions 0)
 
 -- the timeline has this range of kept steps

@@ -7,11 +7,11 @@ use std::marker::Model;
 
 /// A list of changes, in the order of their positions.
 #[derive(Drop)]
-pub struct Changes<A: Allocator = Global> {
+pub struct EntryChanges<A: Allocator = Global> {
     items: Vec<Changed, A>,
 }
 
-impl<A: Allocator> Model for Changes<A> {
+impl<A: Allocator> Model for EntryChanges<A> {
     ghost use Rattle.std.specs.Prelude.{List};
     ghost use Rattle.std.specs.Coded.{coded_list};
     ghost use Rattle.nd_history.specs.Changes.{changed_code};
@@ -24,12 +24,12 @@ impl<A: Allocator> Model for Changes<A> {
     ghost view = { λ a. a.items.items };
 }
 
-impl<A: Allocator> Changes<A> {
+impl<A: Allocator> EntryChanges<A> {
     // Returns an empty list.
-    pub(crate) fn new(alloc: A) -> Changes<A>
+    pub(crate) fn new(alloc: A) -> EntryChanges<A>
         ensures { result ≡ [] }
     {
-        Changes {
+        EntryChanges {
             items: Vec::new(alloc),
         }
     }
@@ -54,7 +54,7 @@ impl<A: Allocator> Changes<A> {
 #[derive(Drop)]
 pub struct ChangeList<A: Allocator = Global> {
     /// The first 1,000 changes, or all if there are no more.
-    pub changes: Changes<A>,
+    pub changes: EntryChanges<A>,
     /// Whether there are more.
     pub more: bool,
 }

@@ -6,7 +6,7 @@ ghost use Rattle.nd_history.specs.Least.{HoldsAt, IsLeast};
 ghost use Rattle.nd_history.specs.Turns.{AreListed, first_hit_of, MayTurn, CannotTurn};
 
 use crate::history::{Observation, history, walk_at};
-use crate::{PositionList, Turns, TurnsFault};
+use crate::{PositionList, TurnList, TurnsFault};
 use nd_breaks::Condition;
 use nd_cluster::Cluster;
 use nd_timeline::Timeline;
@@ -47,7 +47,7 @@ pub fn turns<A: Allocator + Copy>(
     condition: &Condition,
     lo: u64,
     hi: u64,
-) -> Result<Turns<A>, TurnsFault>
+) -> Result<TurnList<A>, TurnsFault>
     ensures listed { IfOk result (AreListed (HoldsAt timeline.now condition.now) lo hi) }
     ensures least { IfOk result (λ t.
         IsLeast (HoldsAt timeline.now condition.now) lo hi (first_hit_of lo t)) }
@@ -59,7 +59,7 @@ pub fn turns<A: Allocator + Copy>(
     let at_lo = condition.holds(&walk.cluster);
     let told = history(alloc, timeline, &mut walk, condition, hi)?;
     let positions = PositionList::of(alloc, told.changes.as_slice())?;
-    Ok(Turns {
+    Ok(TurnList {
         at_lo,
         positions,
         more: told.more,

@@ -5,8 +5,9 @@ ghost use Rattle.nd_history.specs.Effects.{IsLedTo, IsEffect, HasNoEffect, code_
 use crate::history::walk_at;
 use nd_cluster::Effect;
 use nd_protocol::{Refusal, Step};
+use nd_replies::Fault;
 use nd_time::Code;
-use nd_timeline::{Fault, Timeline};
+use nd_timeline::Timeline;
 use std::alloc::{AllocError, Allocator, Global};
 
 /// A kept step, and what it changed.

@@ -3,8 +3,8 @@ ghost use Rattle.std.specs.Prelude.{◌≡◌};
 ghost use Rattle.nd_history.specs.Faults.{code_of_changes, code_of_search, code_of_turns};
 
 use nd_protocol::Refusal;
+use nd_replies::Fault;
 use nd_time::Code;
-use nd_timeline::Fault;
 use std::alloc::{AllocError, Allocator, Global};
 
 /// Why a search returns nothing.

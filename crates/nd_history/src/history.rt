@@ -4,7 +4,7 @@ ghost use Rattle.nd_protocol.specs.State.{ClusterState};
 ghost use Rattle.nd_timeline.specs.Walks.{IsOn};
 ghost use Rattle.nd_history.specs.History.{IsHistory, shown_at};
 
-use crate::{ChangeList, Changes};
+use crate::{ChangeList, EntryChanges};
 use nd_cluster::Cluster;
 use nd_time::limits::MAX_TOLD;
 use nd_timeline::{Changed, Timeline, Walk};
@@ -66,7 +66,7 @@ pub(crate) fn history<A: Allocator + Copy, O: Observation>(
     ensures { IfOk result
         (IsHistory (shown_at timeline.now (O.Shows observation.now)) walk.old.at hi) }
 {
-    let mut changes = Changes::new(alloc);
+    let mut changes = EntryChanges::new(alloc);
     let mut before = observation.of(&walk.cluster);
     for at in walk.at..hi {
         go(timeline, walk, at + 1)?;

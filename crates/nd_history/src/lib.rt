@@ -18,12 +18,12 @@ mod turn_list;
 mod view_history;
 mod work;
 
-pub use change_list::{ChangeList, Changes};
+pub use change_list::{ChangeList, EntryChanges};
 pub use condition_history::turns;
 pub use effects::{EffectFault, StepEffect, effect};
 pub use fault::{ChangesFault, SearchFault, TurnsFault};
 pub use gate::{Gate, OpenGate};
 pub use nd_timeline::{Changed, Snapshot};
 pub use searches::{search, search_in};
-pub use turn_list::{PositionList, Turns};
+pub use turn_list::{PositionList, TurnList};
 pub use view_history::changes;

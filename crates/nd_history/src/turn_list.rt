@@ -41,7 +41,7 @@ impl<A: Allocator> PositionList<A> {
 
 /// Where a condition begins and ceases to hold in a range of positions.
 #[derive(Drop)]
-pub struct Turns<A: Allocator = Global> {
+pub struct TurnList<A: Allocator = Global> {
     /// Whether the condition holds at the first position of the range.
     pub at_lo: bool,
     /// The turns, the positions at which it begins or ceases to hold, in order: the first 1,000, or all

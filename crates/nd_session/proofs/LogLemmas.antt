@@ -1,7 +1,7 @@
 -- A log determines the machine after it.
 use Rattle.std.proofs.Common.{◌≡◌, List, [], ◌∷◌, sym, subst, ◌∙◌}
-use Rattle.nd_timeline.specs.Moves.{MachineValue}
-use Rattle.nd_timeline.specs.Laws.{RepliesDetermineMachines}
+use Rattle.nd_machine.specs.Moves.{MachineValue}
+use Rattle.nd_machine.specs.Laws.{RepliesDetermineMachines}
 use Rattle.nd_session.specs.Log.{Leads}
 use Rattle.nd_session.specs.declared.receipt.Receipt.{Receipt}
 

@@ -18,7 +18,7 @@ use Rattle.nd_protocol.specs.State.{ClusterState}
 use Rattle.nd_protocol.specs.Fitting.{IsState}
 use Rattle.nd_protocol.specs.Invariant.{KeepsProtocol}
 use Rattle.nd_timeline.specs.Timeline.{TimelineValue, IsTimeline, opened}
-use Rattle.nd_timeline.specs.Moves.{MachineValue, Moves, without_breaks}
+use Rattle.nd_machine.specs.Moves.{MachineValue, Moves, without_breaks}
 use Rattle.nd_session.specs.declared.receipt.Receipt.{Receipt}
 use Rattle.nd_session.specs.declared.fault.SessionFault.{SessionFault}
 use Rattle.nd_session.specs.declared.fault.SessionFault.TheVariants.{Memory}

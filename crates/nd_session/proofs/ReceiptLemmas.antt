@@ -9,8 +9,8 @@ use Rattle.nd_time.specs.Limits.{max_log}
 use Rattle.nd_protocol.specs.Fitting.{IsState}
 use Rattle.nd_protocol.specs.Invariant.{KeepsProtocol}
 use Rattle.nd_timeline.specs.Timeline.{opened}
-use Rattle.nd_timeline.specs.Moves.{MachineValue, without_breaks}
-use Rattle.nd_timeline.specs.declared.command.Command.{Command}
+use Rattle.nd_machine.specs.Moves.{MachineValue, without_breaks}
+use Rattle.nd_commands.specs.declared.command.Command.{Command}
 use Rattle.nd_timeline.specs.Snapshot.{SnapshotValue, snapshot_of}
 use Rattle.nd_session.specs.declared.receipt.Receipt.{Receipt}
 use Rattle.nd_session.specs.declared.fault.SessionFault.{SessionFault}

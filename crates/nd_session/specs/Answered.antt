@@ -1,7 +1,7 @@
 -- How the answer to a client's command changes what is under the lock. Only private contracts use these definitions.
 use Rattle.std.specs.Prelude.{◌≡◌, ◌<◌, [], ◌∷◌, ◌++◌, length}
 use Rattle.nd_time.specs.Limits.{max_log}
-use Rattle.nd_timeline.specs.declared.command.Command.{Command}
+use Rattle.nd_commands.specs.declared.command.Command.{Command}
 use Rattle.nd_session.specs.declared.receipt.Receipt.{Receipt}
 use Rattle.nd_session.specs.declared.shared.Shared.{Shared}
 use Rattle.nd_session.specs.Log.{IsPlaced, IsLegal, opening_of}

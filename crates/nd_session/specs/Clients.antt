@@ -5,8 +5,8 @@ use Rattle.std.specs.Coded.{Coded, code_by, coded×, coded_ℕ, coded_list}
 use Rattle.nd_time.specs.Limits.{max_log}
 use Rattle.nd_protocol.specs.Fitting.{IsState}
 use Rattle.nd_protocol.specs.Invariant.{KeepsProtocol}
-use Rattle.nd_timeline.specs.Moves.{MachineValue}
-use Rattle.nd_timeline.specs.declared.command.Command.{Command}
+use Rattle.nd_machine.specs.Moves.{MachineValue}
+use Rattle.nd_commands.specs.declared.command.Command.{Command}
 use Rattle.nd_timeline.specs.Snapshot.{SnapshotValue}
 use Rattle.nd_session.specs.Codes.{receipt_code}
 use Rattle.nd_session.specs.Log.{IsStart, IsLegal, opening_of}

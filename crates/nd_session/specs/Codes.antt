@@ -1,7 +1,8 @@
 -- Receipts encoded as numbers, so that the value of a model can contain them.
 use Rattle.std.specs.Prelude.{refl}
 use Rattle.std.specs.Coded.{Coded, code_by, coded×, coded_ℕ}
-use Rattle.nd_timeline.specs.Codes.{command_code, reply_code}
+use Rattle.nd_commands.specs.Codes.{command_code}
+use Rattle.nd_replies.specs.Codes.{reply_code}
 use Rattle.nd_session.specs.declared.receipt.Receipt.{Receipt}
 
 abbrev pub receipt_code : (A : Type 0) → Coded (Receipt A)

@@ -2,7 +2,7 @@
 use Rattle.std.specs.Prelude.{◌≡◌, ℕ, ◌<◌, ◌≤◌, ◌⊎◌, List, length, codes}
 use Rattle.nd_time.specs.Code.{Code, coded}
 use Rattle.nd_time.specs.Limits.{max_log, max_clients}
-use Rattle.nd_timeline.specs.Moves.{MachineValue}
+use Rattle.nd_machine.specs.Moves.{MachineValue}
 use Rattle.nd_session.specs.Clients.{ClientValue, IsHistory, IsKnown, HasReportedEntry, IsStranger}
 use Rattle.nd_session.specs.declared.receipt.Receipt.{Receipt}
 use Rattle.nd_session.specs.declared.fault.SessionFault.{SessionFault}

@@ -5,7 +5,7 @@ use Rattle.std.specs.FinMap.{find}
 use Rattle.nd_time.specs.Limits.{max_log}
 use Rattle.nd_protocol.specs.Fitting.{IsState}
 use Rattle.nd_protocol.specs.Invariant.{KeepsProtocol}
-use Rattle.nd_timeline.specs.Moves.{MachineValue}
+use Rattle.nd_machine.specs.Moves.{MachineValue}
 use Rattle.nd_session.specs.Log.{IsStart, IsLegal, count_of, opening_of}
 use Rattle.nd_session.specs.declared.receipt.Receipt.{Receipt}
 

@@ -1,6 +1,6 @@
 -- What the log of a session determines, as a statement. A is the allocator of the steps' values.
 use Rattle.std.specs.Prelude.{◌≡◌, List}
-use Rattle.nd_timeline.specs.Moves.{MachineValue}
+use Rattle.nd_machine.specs.Moves.{MachineValue}
 use Rattle.nd_session.specs.Log.{Leads}
 use Rattle.nd_session.specs.declared.receipt.Receipt.{Receipt}
 

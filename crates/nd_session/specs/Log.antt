@@ -6,9 +6,9 @@ use Rattle.nd_paths.specs.Order.{IsAccepted}
 use Rattle.nd_protocol.specs.State.{ClusterState}
 use Rattle.nd_protocol.specs.Start.{start}
 use Rattle.nd_timeline.specs.Timeline.{opened}
-use Rattle.nd_timeline.specs.Moves.{MachineValue, Moves, without_breaks}
-use Rattle.nd_timeline.specs.declared.command.Command.{Command}
-use Rattle.nd_timeline.specs.declared.reply.Reply.{Reply}
+use Rattle.nd_machine.specs.Moves.{MachineValue, Moves, without_breaks}
+use Rattle.nd_commands.specs.declared.command.Command.{Command}
+use Rattle.nd_replies.specs.declared.reply.Reply.{Reply}
 use Rattle.nd_session.specs.declared.receipt.Receipt.{Receipt}
 
 -- ---- where a log begins

@@ -1,8 +1,8 @@
 -- What callers see of a `State`: a machine, and the log of what it has answered.
 use Rattle.std.specs.Prelude.{List, refl}
 use Rattle.std.specs.Coded.{Coded, code_by, coded×, coded_list}
-use Rattle.nd_timeline.specs.Moves.{MachineValue}
-use Rattle.nd_timeline.specs.Reached.{machine_code}
+use Rattle.nd_machine.specs.Moves.{MachineValue}
+use Rattle.nd_machine.specs.Codes.{machine_code}
 use Rattle.nd_session.specs.Codes.{receipt_code}
 use Rattle.nd_session.specs.declared.receipt.Receipt.{Receipt}
 

@@ -18,4 +18,5 @@ pub use receipt::Receipt;
 pub use session::Session;
 pub use state::State;
 // Commands to a session, and replies.
-pub use nd_timeline::{Command, Reply};
+pub use nd_commands::Command;
+pub use nd_replies::Reply;

@@ -1,7 +1,8 @@
 //! An entry of the log, as its client gets it.
 ghost use Rattle.std.specs.Prelude.{◌≡◌, ◌≢◌, IfOk, MatchBool};
 
-use nd_timeline::{Command, Reply};
+use nd_commands::Command;
+use nd_replies::Reply;
 use std::alloc::{AllocError, Allocator, Global};
 
 /// A command that was answered, and the reply: an entry of the log, of which its client also gets a

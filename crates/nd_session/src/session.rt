@@ -7,7 +7,8 @@ ghost use Rattle.nd_session.specs.Faults.{CommandMayFail, CopyMayFail, EnterMayF
 
 use crate::shared::Shared;
 use crate::{Client, CloseFault, Log, Receipt, SessionFault, State};
-use nd_timeline::{Command, Snapshot};
+use nd_commands::Command;
+use nd_timeline::Snapshot;
 use std::alloc::{Allocator, Global};
 use std::sync::{Mutex, Wait};
 

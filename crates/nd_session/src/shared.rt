@@ -8,8 +8,9 @@ ghost use Rattle.nd_session.specs.Clients.{Gains, Holds, last_of, HoldsLast, IsH
 ghost use Rattle.nd_session.specs.Faults.{TestFails, CommandFails, CopyFails, EnterFails};
 
 use crate::{Client, Receipt, SessionFault, State};
+use nd_commands::Command;
 use nd_time::limits::MAX_CLIENTS;
-use nd_timeline::{Command, Snapshot};
+use nd_timeline::Snapshot;
 use std::alloc::{AllocError, Allocator, Global};
 
 // A `State`, and how many clients have entered.

@@ -4,7 +4,7 @@ ghost use Rattle.nd_time.specs.Limits.{max_log};
 ghost use Rattle.nd_protocol.specs.Fitting.{IsState};
 ghost use Rattle.nd_protocol.specs.Invariant.{KeepsProtocol};
 ghost use Rattle.nd_timeline.specs.Snapshot.{snapshot_of};
-ghost use Rattle.nd_timeline.specs.Moves.{Moves, without_breaks};
+ghost use Rattle.nd_machine.specs.Moves.{Moves, without_breaks};
 ghost use Rattle.nd_session.specs.Log.{IsStart, IsPlaced, IsLegal, count_of, entry_of, opening_of};
 ghost use Rattle.nd_session.specs.State.{StateValue};
 ghost use Rattle.nd_session.specs.Clients.{IsHistory};
@@ -12,10 +12,13 @@ ghost use Rattle.nd_session.specs.Faults.{ApplyFails};
 
 use crate::{Receipt, SessionFault};
 use nd_breaks::Breaks;
+use nd_commands::Command;
+use nd_machine::{Machine, moves_keep_timelines};
 use nd_map::GrowingMap;
 use nd_protocol::starts_keep_protocol;
+use nd_replies::Reply;
 use nd_time::limits::MAX_LOG;
-use nd_timeline::{Command, Machine, Reply, Snapshot, Timeline, moves_keep_timelines};
+use nd_timeline::{Snapshot, Timeline};
 use std::alloc::{AllocError, Allocator, Global};
 use std::marker::Model;
 

@@ -6,9 +6,9 @@ use crate::timelines::memory::Heap;
 use nd_cluster::Next;
 use nd_examples::{LINE, StepLine, graph_of, is_state, state_text};
 use nd_graph::Graph;
+use nd_replies::{Fault, Reply};
 use nd_session::{Client, Session};
 use nd_testing::{MANY, Refusing};
-use nd_timeline::{Fault, Reply};
 use std::alloc::{Allocator, Global};
 use std::sync::Wait;
 

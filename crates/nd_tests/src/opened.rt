@@ -2,10 +2,11 @@
 
 use nd_breaks::{Atom, BoxedCondition, Condition, Literal, Quantifier};
 use nd_cluster::{Cluster, Next};
+use nd_commands::Command;
 use nd_examples::{StepLine, graph_of, processors_of, step_of};
 use nd_graph::Graph;
 use nd_session::{Session, State};
-use nd_timeline::{Command, Timeline};
+use nd_timeline::Timeline;
 use std::alloc::{Allocator, Global};
 
 /// A command, its step by the names of locations.

@@ -2,15 +2,16 @@
 
 use crate::opened::{NOTHING, command_of, only, opened, session_of};
 use nd_breaks::{Atom, Condition};
+use nd_commands::Command;
 use nd_examples::{
     ADD, DISTINCT, EMPTY, EXCHANGE, FILTER, HELD, LINE, LOOP, NESTED_LOOP, SPLIT, SUM, TWO_WAYS,
     graph_of, point, start, state_text,
 };
 use nd_graph::Graph;
 use nd_history::{Gate, search};
+use nd_replies::{Fault, Reply};
 use nd_session::{Client, CloseWhy, Log, Receipt, Session, SessionFault};
 use nd_testing::Sign;
-use nd_timeline::{Command, Fault, Reply};
 use std::alloc::Global;
 use std::rt::Clock;
 use std::sync::Wait;

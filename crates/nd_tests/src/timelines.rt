@@ -7,8 +7,10 @@ pub mod memory;
 mod succeeds;
 
 use nd_breaks::Breaks;
+use nd_machine::run;
 use nd_protocol::Processors;
-use nd_timeline::{Fault, Ran, Timeline};
+use nd_replies::{Fault, Ran};
+use nd_timeline::Timeline;
 use std::alloc::Allocator;
 
 /// Runs all processors of a timeline.
@@ -18,5 +20,5 @@ pub fn run_all<A: Allocator + Copy>(
     breaks: &Breaks<A>,
 ) -> Result<Ran, Fault> {
     let all: Option<Processors<A>> = None;
-    timeline.run(limit, all.as_ref(), None, breaks)
+    run(timeline, limit, all.as_ref(), None, breaks)
 }

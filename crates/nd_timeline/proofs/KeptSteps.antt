@@ -14,7 +14,7 @@ use Rattle.nd_timeline.specs.Timeline.{TimelineValue, cluster_of, moved_to, IsTi
 use Rattle.nd_timeline.specs.Reached.{steps_of, ArePlanned, IsReached}
 use Rattle.nd_timeline.specs.Moves.{JumpMoves}
 use Rattle.nd_timeline.specs.Walks.{timeline_at, IsOn}
-use Rattle.nd_timeline.specs.declared.reply.Reply.TheVariants.{Moved}
+use Rattle.nd_replies.specs.declared.reply.Reply.TheVariants.{Moved}
 use Rattle.nd_timeline.specs.declared.walk.Kept.{Kept}
 use Rattle.nd_timeline.specs.declared.walk.Walk.{Walk}
 

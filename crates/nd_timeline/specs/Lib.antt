@@ -1,10 +1,6 @@
-pub mod Faults
 pub mod Timeline
 pub mod Walks
 pub mod Moves
-pub mod Laws
 pub mod Reached
-pub mod Seeds
-pub mod Codes
 pub mod Checkpoints
 pub mod Snapshot

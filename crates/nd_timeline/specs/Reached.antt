@@ -1,8 +1,7 @@
 -- How a timeline represents its value. Only its invariant and private contracts use these definitions, apart
--- from the codes.
+-- from the code.
 use Rattle.std.specs.Prelude.{◌≡◌, ℕ, ◌≤◌, List, [], ◌∷◌, map, length, take, refl}
 use Rattle.std.specs.Coded.{Coded, code_by, coded×, coded_ℕ, coded_list}
-use Rattle.std.specs.FinMap as fin
 use Rattle.nd_time.specs.Limits.{max_kept}
 use Rattle.nd_protocol.specs.State.{ClusterState, cluster_code}
 use Rattle.nd_protocol.specs.Steps.{after, stepped}
@@ -10,21 +9,14 @@ use Rattle.nd_protocol.specs.Codes.{step_code}
 use Rattle.nd_protocol.specs.declared.step.Step.{Step}
 use Rattle.nd_steps.specs.declared.record.Record.{Record}
 use Rattle.nd_cluster.specs.Records.{IsPlanned}
-use Rattle.nd_breaks.specs.Conditions.{condition_code}
 use Rattle.nd_timeline.specs.Timeline.{TimelineValue}
-use Rattle.nd_timeline.specs.Moves.{MachineValue}
 
--- ---- codes
+-- ---- the code
 
 abbrev pub timeline_code : (A : Type 0) → Coded (TimelineValue A)
 timeline_code A =
     code_by _ (coded× cluster_code (coded× (coded_list (step_code {A = A})) coded_ℕ))
     (λ m. (m.base, (m.kept, m.cursor))) (λ t. record { base = t.0; kept = t.1.0; cursor = t.1.1 }) (λ _. refl)
-
-abbrev pub machine_code : (A : Type 0) → Coded (MachineValue A)
-machine_code A =
-    code_by _ (coded× (timeline_code A) (fin.code coded_ℕ condition_code))
-    (λ m. (m.timeline, m.breaks)) (λ t. record { timeline = t.0; breaks = t.1 }) (λ _. refl)
 
 -- ---- the invariant of a timeline
 

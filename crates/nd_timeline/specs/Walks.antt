@@ -8,7 +8,7 @@ use Rattle.nd_cluster.specs.Records.{Leads}
 use Rattle.nd_timeline.specs.Timeline.{TimelineValue, cluster_of, moved_to}
 use Rattle.nd_timeline.specs.Moves.{moved_reply, JumpMoves}
 use Rattle.nd_timeline.specs.Reached.{steps_of}
-use Rattle.nd_timeline.specs.declared.fault.Fault.{Fault}
+use Rattle.nd_replies.specs.declared.fault.Fault.{Fault}
 use Rattle.nd_timeline.specs.declared.walk.Kept.{Kept}
 use Rattle.nd_timeline.specs.declared.walk.Walk.{Walk}
 

@@ -10,12 +10,13 @@ ghost use Rattle.nd_timeline.specs.Reached.{AreCopies};
 ghost use Rattle.nd_timeline.specs.Moves.{moved_reply, StepFails, ForwardMoves, BackMoves, RedoMoves, JumpMoves};
 ghost use Rattle.nd_timeline.specs.Walks.{IsOn};
 
+use crate::Walk;
 use crate::checkpoint::{SPACING, Start};
 use crate::walk::Kept;
-use crate::{Fault, Walk};
 use nd_cluster::{Cluster, Record};
 use nd_paths::Pointstamp;
 use nd_protocol::{NoMemory, Refusal, Step, steps_keep_protocol};
+use nd_replies::Fault;
 use nd_time::limits::MAX_KEPT;
 use std::alloc::{AllocError, Allocator, Global};
 use std::marker::Model;
@@ -171,8 +172,8 @@ impl<A: Allocator + Copy> Timeline<A> {
         }
     }
 
-    // Executes a planned step, and keeps its small record.
-    pub(crate) fn make(&mut self, planned: Record<A>) -> Result<(), NoMemory>
+    /// Executes a planned step, and keeps its small record in place of all steps after the cursor.
+    pub fn commit(&mut self, planned: Record<A>) -> Result<(), NoMemory>
         requires room { self.old.cursor < max_kept }
         requires planned { IsPlanned planned (cluster_of self.old) }
         ensures ok { OnOk result (self.new ≡ extended self.old planned.step) }
@@ -199,7 +200,7 @@ impl<A: Allocator + Copy> Timeline<A> {
             return Err(Fault::TimelineFull);
         }
         let record = self.plan(step)?;
-        match self.make(record) {
+        match self.commit(record) {
             Ok(()) => Ok(()),
             Err(NoMemory) => Err(Fault::Memory { at }),
         }

@@ -3,10 +3,11 @@ ghost use Rattle.std.specs.Prelude.{◌≡◌, ◌+◌, ◌-◌, ◌<◌, length
 ghost use Rattle.nd_timeline.specs.Reached.{ArePlanned, IsReached};
 ghost use Rattle.nd_timeline.specs.Walks.{BeginsNear, IsOn, LeadsFrom, WalksTo, timeline_at};
 
+use crate::Timeline;
 use crate::checkpoint::{Checkpoint, Start};
-use crate::{Fault, Timeline};
 use nd_cluster::{Cluster, Record};
 use nd_protocol::NoMemory;
+use nd_replies::Fault;
 use std::alloc::{AllocError, Allocator, Global};
 
 /// A cluster that moves over the kept steps of a timeline. The timeline does not change, so several walks can

@@ -7,7 +7,7 @@ use Rattle.serde_json.specs.Data.{Data}
 use Rattle.serde_json.specs.Written.{compact_text}
 use Rattle.rewind_lines.specs.Lines.{too_long, no_json}
 use Rattle.nd_timeline.specs.Timeline.{TimelineValue, cluster_of}
-use Rattle.nd_timeline.specs.declared.command.Command.{Command}
+use Rattle.nd_commands.specs.declared.command.Command.{Command}
 use Rattle.rewind_forms.specs.Asked.{asked_of}
 use Rattle.rewind_replies.specs.Replies.{IsReply}
 use Rattle.rewind_answers.specs.FaultyLines.{line_fault}

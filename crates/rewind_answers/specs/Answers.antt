@@ -23,9 +23,9 @@ use Rattle.nd_protocol.specs.Start.{start}
 use Rattle.nd_cluster.specs.Starting.{IsStartFault, CanStart, start_code}
 use Rattle.nd_cluster.specs.declared.start.StartFault.TheVariants as start_fault
 use Rattle.nd_timeline.specs.Timeline.{TimelineValue, cluster_of, opened}
-use Rattle.nd_timeline.specs.Moves.{MachineValue, Moves, without_breaks}
-use Rattle.nd_timeline.specs.declared.command.Command.{Command}
-use Rattle.nd_timeline.specs.declared.reply.Reply.{Reply}
+use Rattle.nd_machine.specs.Moves.{MachineValue, Moves, without_breaks}
+use Rattle.nd_commands.specs.declared.command.Command.{Command}
+use Rattle.nd_replies.specs.declared.reply.Reply.{Reply}
 use Rattle.nd_history.specs.Least.{HoldsAt, IsLeast as IsLeastHit}
 use Rattle.nd_history.specs.Answers.{MaySearch, SearchFails}
 use Rattle.nd_history.specs.Faults.{code_of_search}

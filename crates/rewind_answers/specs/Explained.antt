@@ -10,8 +10,8 @@ use Rattle.nd_protocol.specs.State.{ClusterState, view}
 use Rattle.nd_protocol.specs.declared.step.Step.{Step}
 use Rattle.nd_state_json.specs.StateText.{row, natural}
 use Rattle.nd_timeline.specs.Timeline.{TimelineValue, cluster_of}
-use Rattle.nd_timeline.specs.Faults.{code_of}
-use Rattle.nd_timeline.specs.declared.fault.Fault.TheVariants.{NoSuchPoint}
+use Rattle.nd_replies.specs.Faults.{code_of}
+use Rattle.nd_replies.specs.declared.fault.Fault.TheVariants.{NoSuchPoint}
 use Rattle.nd_why.specs.Account.{Account}
 use Rattle.nd_why.specs.Why.{IsWhy, IsFinishedBefore}
 use Rattle.nd_why.specs.declared.question.Question.{Question}
@@ -25,7 +25,7 @@ use Rattle.nd_history.specs.Turns.{AreListed, MayTurn, CannotTurn}
 use Rattle.nd_history.specs.declared.effects.StepEffect.{StepEffect}
 use Rattle.nd_history.specs.declared.effects.EffectFault.{EffectFault}
 use Rattle.nd_history.specs.declared.effects.EffectFault.TheVariants as effects
-use Rattle.nd_history.specs.declared.turn_list.Turns.{Turns}
+use Rattle.nd_history.specs.declared.turn_list.TurnList.{TurnList}
 use Rattle.nd_history.specs.declared.fault.TurnsFault.{TurnsFault}
 use Rattle.nd_history.specs.declared.fault.TurnsFault.TheVariants as turned
 use Rattle.nd_history.specs.declared.change_list.ChangeList.{ChangeList}
@@ -37,7 +37,7 @@ use Rattle.rewind_replies.specs.Reasons.{reasons_data}
 use Rattle.rewind_replies.specs.Changes.{changes_data}
 use Rattle.rewind_replies.specs.Effects.{effect_data}
 use Rattle.rewind_forms.specs.declared.queries.ViewChanges.{ViewChanges}
-use Rattle.rewind_forms.specs.declared.queries.Turns.{Turns as Turning}
+use Rattle.rewind_forms.specs.declared.queries.ConditionTurns.{ConditionTurns}
 
 -- ---- kept steps
 
@@ -109,7 +109,7 @@ turns_fault e = Some (fault (code_of_turns e))
 
 -- The reply to a query for turns: the first of them, whether there are more, and whether the condition holds at the first
 -- position; or the first error whose condition holds.
-pub data TurnsReply (m : TimelineValue Global) (c : Turning) (reply : Data) : Type 0 where
-  listed : (listing : Turns Global) → MayTurn m c.lo c.hi → AreListed (HoldsAt m c.when) c.lo c.hi listing
+pub data TurnsReply (m : TimelineValue Global) (c : ConditionTurns) (reply : Data) : Type 0 where
+  listed : (listing : TurnList Global) → MayTurn m c.lo c.hi → AreListed (HoldsAt m c.when) c.lo c.hi listing
       → reply ≡ turns listing.at_lo (row (map natural listing.positions)) listing.more → TurnsReply m c reply
   unlisted : (e : TurnsFault) → CannotTurn m c.lo c.hi e → Some reply ≡ turns_fault e → TurnsReply m c reply

@@ -12,7 +12,7 @@ use Rattle.rewind_replies.specs.Errors.{error_data}
 use Rattle.rewind_replies.specs.Replies.{graph}
 use Rattle.rewind_answers.specs.declared.answer.First.{First}
 use Rattle.rewind_answers.specs.declared.answer.First.TheVariants.{Started, Refused}
-use Rattle.rewind_answers.specs.declared.stage.Script.{Script}
+use Rattle.rewind_answers.specs.declared.stage.RunningScript.{RunningScript}
 use Rattle.rewind_answers.specs.declared.stage.Stage.{Stage}
 use Rattle.rewind_answers.specs.declared.stage.Stage.TheVariants.{Unopened, Unstarted, Running}
 
@@ -20,7 +20,7 @@ use Rattle.rewind_answers.specs.declared.stage.Stage.TheVariants.{Unopened, Unst
 abbrev pub logged : StateValue Global → Logged
 logged s = record { machine = s.machine; entries = length s.log }
 
-abbrev pub phase_in : Script → Phase
+abbrev pub phase_in : RunningScript → Phase
 phase_in script = running script.version (logged script.state)
 
 -- the phase that a stage stands for

@@ -11,11 +11,12 @@ ghost use Rattle.nd_timeline.specs.Timeline.{cluster_of};
 
 use crate::faulty_lines::line_fault;
 use crate::query::answer_query;
-use crate::stage::Script;
+use crate::stage::RunningScript;
 use nd_cluster::{Cluster, StartFault};
+use nd_commands::Command;
 use nd_graph::{Graph, GraphDraft, GraphFault};
 use nd_session::State;
-use nd_timeline::{Command, Timeline};
+use nd_timeline::Timeline;
 use rewind_forms::{Asked, Version, asked_of};
 use rewind_replies::{ErrorReply, GraphReply, NoNames, text_of};
 use serde_json::Value;
@@ -178,7 +179,7 @@ fn answer_asked<R: Threads + Sync>(
 pub fn answer_later<R: Threads + Sync>(
     rt: &R,
     alloc: Global,
-    script: &mut Script,
+    script: &mut RunningScript,
     value: &Value,
     line: u64,
 ) -> Result<Vec<u8>, AllocError>

@@ -3,11 +3,12 @@ ghost use Rattle.std.specs.Prelude.{◌≡◌, Some, IfOk};
 ghost use Rattle.serde_json.specs.Written.{compact_text};
 ghost use Rattle.rewind_replies.specs.Replies.{IsReply, fault as fault_data};
 ghost use Rattle.rewind_answers.specs.Explained.{ExportReply, StepReply, EffectReply, effect_fault};
-ghost use Rattle.nd_timeline.specs.Faults.{code_of};
-ghost use Rattle.nd_timeline.specs.declared.fault.Fault.TheVariants.{NoSuchPoint};
+ghost use Rattle.nd_replies.specs.Faults.{code_of};
+ghost use Rattle.nd_replies.specs.declared.fault.Fault.TheVariants.{NoSuchPoint};
 
 use nd_history::{EffectFault, effect};
-use nd_timeline::{Fault, Timeline};
+use nd_replies::Fault;
+use nd_timeline::Timeline;
 use rewind_replies::{KeptSteps, NoNames, object, text_of};
 use std::alloc::{AllocError, Global};
 

@@ -28,7 +28,7 @@ use std::thread::Threads;
 pub enum Stage {
     Unopened(u8),
     Unstarted(Version, u8),
-    Running(Script),
+    Running(RunningScript),
 }
 
 impl Stage {
@@ -45,7 +45,7 @@ impl Stage {
 
 /// A script of this version whose graph is accepted.
 #[derive(Drop)]
-pub struct Script {
+pub struct RunningScript {
     pub version: Version,
     pub state: State,
 }
@@ -104,7 +104,7 @@ fn answer_graph(
         }),
         First::Started(Started { reply, state }) => {
             let text = text_of(alloc, &NoNames, &reply)?;
-            *stage = Stage::Running(Script { version, state });
+            *stage = Stage::Running(RunningScript { version, state });
             Ok(goes_on(text))
         }
     }

@@ -9,7 +9,7 @@ use crate::query::no_processor;
 use nd_cluster::{Cluster, Extent, Question};
 use nd_history::{ChangesFault, TurnsFault, changes, turns};
 use nd_timeline::Timeline;
-use rewind_forms::{Turns, ViewChanges};
+use rewind_forms::{ConditionTurns, ViewChanges};
 use rewind_replies::{NoNames, object, text_of};
 use std::alloc::{AllocError, Global};
 
@@ -92,11 +92,11 @@ fn refuse_turns(alloc: Global, fault: TurnsFault) -> Result<Vec<u8>, AllocError>
 pub(crate) fn answer_turns(
     alloc: Global,
     timeline: &Timeline,
-    asked: &Turns,
+    asked: &ConditionTurns,
 ) -> Result<Vec<u8>, AllocError>
     ensures reply { IfOk result (λ t. IsReply (TurnsReply timeline.now asked.now) t.items) }
 {
-    let Turns { when, lo, hi } = asked;
+    let ConditionTurns { when, lo, hi } = asked;
     match turns(alloc, timeline, when, *lo, *hi) {
         Ok(listed) => {
             let (at_lo, turns) = (listed.at_lo, listed.positions.as_slice());

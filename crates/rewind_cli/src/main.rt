@@ -4,8 +4,11 @@
 //! error that ended the run, which is reported on standard error.
 #![tactic(auto)]
 
-use rewind::{DebugFault, OpenGate, Options, WordsFault, debug, debug_clients, options_of};
+use nd_history::OpenGate;
+use rewind_clients::debug_clients;
 use rewind_lines::{ReadSource, WriteSink};
+use rewind_options::{DebugFault, Options, WordsFault, options_of};
+use rewind_run::debug;
 use std::io::ErrorKind;
 use std::process::ExitCode;
 use std::sync::Wait;

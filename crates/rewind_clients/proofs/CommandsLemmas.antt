@@ -1,7 +1,7 @@
 -- One more command of a client.
 use Rattle.std.proofs.Common.{◌≡◌, ℕ, zero, suc, ◌<◌, List, [], ◌∷◌, ◌++◌, length, Global, Vec, ap, arith}
 use Rattle.std.specs.Prelude.{slice_index_or, slice_set}
-use Rattle.nd_timeline.specs.declared.command.Command.{Command}
+use Rattle.nd_commands.specs.declared.command.Command.{Command}
 use Rattle.rewind_sessions.specs.Runs.{lists_of}
 
 pub lists-set : (vs : List (Vec (Command Global) Global)) (i : ℕ) (v d : Vec (Command Global) Global) (x : Command Global) → i < length vs → v.items ≡ (slice_index_or vs i d).items ++ x ∷ []

@@ -14,7 +14,7 @@ use Rattle.rewind_sessions.specs.Runs.{lists_of}
 use Rattle.rewind_clients.specs.Intake.{IsBegun, nothing, opened, refused_graph, faulty_line, script}
 use Rattle.rewind_clients.specs.Intake as read
 use Rattle.rewind_clients.specs.declared.intake.Intake.{Intake}
-use Rattle.rewind_clients.specs.declared.intake.Script.{Script}
+use Rattle.rewind_clients.specs.declared.intake.ReadScript.{ReadScript}
 use Rattle.rewind_clients.specs.declared.intake.Intake.TheVariants.{Unstarted, Refused, Faulty, Whole}
 
 -- before the graph's line, after a version line or none
@@ -23,14 +23,14 @@ unstarted_view None = nothing
 unstarted_view (Some version) = opened version (version_reply (number_of version))
 
 -- the version of a script
-abbrev pub version_of : Script → Version
+abbrev pub version_of : ReadScript → Version
 version_of s = unwrap_or s.opened First
 
 -- the replies to a version line, if the script has one, and to its graph
-abbrev pub opening_replies : Script → List Data
+abbrev pub opening_replies : ReadScript → List Data
 opening_replies s = opening_data s.opened s.reply
 
-abbrev pub script_view : Script → read.Intake
+abbrev pub script_view : ReadScript → read.Intake
 script_view s = script (version_of s) (opening_replies s) (logged s.state) (lists_of s.commands.items)
 
 abbrev pub intake_view : Intake → read.Intake
@@ -40,7 +40,7 @@ intake_view (Faulty e) = faulty_line (error_data e)
 intake_view (Whole s) = script_view s
 
 -- a script, or the reply to its faulty line
-abbrev pub or_faulty : Option ErrorReply → Script → read.Intake
+abbrev pub or_faulty : Option ErrorReply → ReadScript → read.Intake
 or_faulty None s = script_view s
 or_faulty (Some e) s = faulty_line (error_data e)
 

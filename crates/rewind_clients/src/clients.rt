@@ -6,7 +6,7 @@ ghost use Rattle.rewind_clients.specs.Clients.{Ends, Takes, Writes};
 ghost use Rattle.rewind_clients.specs.Readers.{IsOfAnswering};
 ghost use Rattle.rewind_clients.specs.Intakes.{intake_view, script_view};
 
-use crate::intake::{Intake, Script};
+use crate::intake::{Intake, ReadScript};
 use crate::reader::read_script;
 use nd_history::Gate;
 use nd_time::limits::MAX_INPUT;
@@ -23,7 +23,7 @@ fn answer_script<R: Threads + Wait + Sync, T: Sink, G: Gate>(
     rt: &R,
     alloc: Global,
     sink: &mut T,
-    script: Script,
+    script: ReadScript,
     gate: &G,
 ) -> Result<(), DebugFault>
     requires sound { T.failed sink.old ≡ false }

@@ -13,9 +13,9 @@ ghost use Rattle.rewind_sessions.specs.Runs.{lists_of};
 ghost use Rattle.rewind_clients.specs.Intake.{ReadsLine, limit_after, no_commands as no_commands_in, ordered, with_command};
 ghost use Rattle.rewind_clients.specs.Intakes.{intake_view, opening_replies, or_faulty, unstarted_view, version_of as version_in, Starts};
 
+use nd_commands::Command;
 use nd_session::State;
 use nd_time::limits::MAX_LINE;
-use nd_timeline::Command;
 use rewind_answers::{First, Started, answer_first};
 use rewind_forms::{LineFault, Version, version_of};
 use rewind_lines::Reading;
@@ -27,7 +27,7 @@ use std::alloc::{AllocError, Global};
 
 /// A script that was read completely.
 #[derive(Drop)]
-pub struct Script {
+pub struct ReadScript {
     /// The version that the version line names, if there was one.
     pub opened: Option<Version>,
     /// The graph's reply.
@@ -49,7 +49,7 @@ pub enum Intake {
     /// A line after the graph's is faulty, and this is its reply.
     Faulty(ErrorReply),
     /// A graph, and clients' commands.
-    Whole(Script),
+    Whole(ReadScript),
 }
 
 // Returns an empty list of commands for each client.
@@ -84,7 +84,7 @@ fn start(
     let version = opened.unwrap_or(Version::First);
     match answer_first(alloc, version, options.processors, value)? {
         First::Refused(error) => Ok(Intake::Refused(error)),
-        First::Started(Started { reply, state }) => Ok(Intake::Whole(Script {
+        First::Started(Started { reply, state }) => Ok(Intake::Whole(ReadScript {
             opened,
             reply,
             state,
@@ -146,7 +146,7 @@ fn add_command(commands: &mut Vec<Vec<Command>>, order: Order) -> Result<(), All
     Ok(())
 }
 
-impl Script {
+impl ReadScript {
     // Processes a line that is not blank. Returns the reply if the line is faulty.
     fn read_order(
         &mut self,

@@ -21,8 +21,8 @@ use Rattle.rewind_forms.specs.Steps.{next_at, feed_of, take_of, notice_of, later
 use Rattle.rewind_forms.specs.Grammar.{form_of}
 use Rattle.rewind_forms.specs.declared.version.Version.{Version}
 use Rattle.rewind_forms.specs.declared.version.Version.TheVariants.{Sixth}
-use Rattle.rewind_forms.specs.declared.form.Form.{Form}
-use Rattle.rewind_forms.specs.declared.form.Form.TheVariants as line
+use Rattle.rewind_forms.specs.declared.form.LineForm.{LineForm}
+use Rattle.rewind_forms.specs.declared.form.LineForm.TheVariants as line
 use Rattle.rewind_forms.specs.declared.form.StepForm.{StepForm}
 use Rattle.rewind_forms.specs.declared.form.StepForm.TheVariants as form
 use Rattle.rewind_forms.specs.declared.fault.LineFault.{LineFault}
@@ -234,7 +234,7 @@ step_fits v g form.Receive d = receive_fits g d
 pub form_fits : (v : Version) (g : Dataflow) (form : StepForm) (d : Data) (x : Step Global) → step_of v g form d ≡ Ok x → NamesFit g x
 form_fits v g form d x e = subst (λ r. IfOk r (NamesFit g)) e (step_fits v g form d)
 
-line_fits : (g : Dataflow) (d : Data) (form : Form) → IfOk (read_as g d form) (NamesFit g)
+line_fits : (g : Dataflow) (d : Data) (form : LineForm) → IfOk (read_as g d form) (NamesFit g)
 line_fits g d (line.Step form) = step_fits Sixth g form d
 line_fits g d (line.Command form) = tt
 line_fits g d (line.Query form) = tt

@@ -22,7 +22,7 @@ use Rattle.rewind_forms.specs.Grammar.{steps, form_of}
 use Rattle.rewind_forms.specs.Sends.{send_of}
 use Rattle.rewind_forms.specs.Steps.{read_as, read_of}
 use Rattle.rewind_forms.specs.declared.version.Version.TheVariants.{Sixth}
-use Rattle.rewind_forms.specs.declared.form.Form.TheVariants as line
+use Rattle.rewind_forms.specs.declared.form.LineForm.TheVariants as line
 use Rattle.rewind_forms.specs.declared.form.StepForm.TheVariants as form
 use Rattle.rewind_forms.specs.declared.fault.LineFault.{LineFault}
 use Rattle.rewind_forms.specs.declared.fault.LineFault.TheVariants.{BadShape, UnknownName, BadTime}

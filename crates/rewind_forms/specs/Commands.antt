@@ -5,8 +5,8 @@ use Rattle.serde_json.specs.Data.{Data}
 use Rattle.serde_json.specs.Find.{get}
 use Rattle.nd_json.specs.Forms.{whole, whole_at}
 use Rattle.nd_graph.specs.Graph.{Dataflow}
-use Rattle.nd_timeline.specs.declared.command.Command.{Command}
-use Rattle.nd_timeline.specs.declared.command.Command.TheVariants.{Back, Redo, Jump, Run, SetBreak, ClearBreak}
+use Rattle.nd_commands.specs.declared.command.Command.{Command}
+use Rattle.nd_commands.specs.declared.command.Command.TheVariants.{Back, Redo, Jump, Run, SetBreak, ClearBreak}
 use Rattle.rewind_forms.specs.Forms.{given, after, if_any, processors_in}
 use Rattle.rewind_forms.specs.Conditions.{condition_of}
 use Rattle.rewind_forms.specs.Versions.{most_processors}

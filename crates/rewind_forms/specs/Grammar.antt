@@ -7,8 +7,8 @@ use Rattle.nd_json.specs.Forms.{has_keys, text_at}
 use Rattle.rewind_forms.specs.Versions.{includes}
 use Rattle.rewind_forms.specs.declared.version.Version.{Version}
 use Rattle.rewind_forms.specs.declared.version.Version.TheVariants.{First, Second, Third, Fourth, Fifth, Sixth, Seventh, Eighth}
-use Rattle.rewind_forms.specs.declared.form.Form.{Form}
-use Rattle.rewind_forms.specs.declared.form.Form.TheVariants.{Step, Command, Query}
+use Rattle.rewind_forms.specs.declared.form.LineForm.{LineForm}
+use Rattle.rewind_forms.specs.declared.form.LineForm.TheVariants.{Step, Command, Query}
 use Rattle.rewind_forms.specs.declared.form.StepForm.{StepForm}
 use Rattle.rewind_forms.specs.declared.form.StepForm.TheVariants as step
 use Rattle.rewind_forms.specs.declared.form.CommandForm.{CommandForm}
@@ -84,20 +84,20 @@ abbrev pub find : {A : Type 0} → List (List ℕ × List (List ℕ) × Version 
 find [] word d = None
 find (row ∷ rows) word d = if bytes_eq word row.0 && has_keys row.1 d then Some (row.2, row.3) else find rows word d
 
-abbrev pub one_of : Option (Version × StepForm) → Option (Version × CommandForm) → Option (Version × QueryForm) → Option (Version × Form)
+abbrev pub one_of : Option (Version × StepForm) → Option (Version × CommandForm) → Option (Version × QueryForm) → Option (Version × LineForm)
 one_of (Some (since, form)) command query = Some (since, Step form)
 one_of None (Some (since, form)) query = Some (since, Command form)
 one_of None None (Some (since, form)) = Some (since, Query form)
 one_of None None None = None
 
 -- what the word and the keys of an object mean, and the first version whose scripts have it
-abbrev pub meant : List ℕ → Data → Option (Version × Form)
+abbrev pub meant : List ℕ → Data → Option (Version × LineForm)
 meant word d = one_of (find steps word d) (find commands word d) (find queries word d)
 
 -- a form, if a script of version v has what the version `since` introduced
-abbrev pub known_to : Version → Version × Form → Option Form
+abbrev pub known_to : Version → Version × LineForm → Option LineForm
 known_to v (since, form) = if includes v since then Some form else None
 
 -- the form of an object in a script of this version
-unfoldable pub form_of : Version → Data → Option Form
+unfoldable pub form_of : Version → Data → Option LineForm
 form_of v d = option_and_then (λ word. option_and_then (known_to v) (meant word d)) (text_at (codes "do") d)

@@ -20,8 +20,8 @@ use Rattle.rewind_forms.specs.Grammar.{form_of}
 use Rattle.rewind_forms.specs.Versions.{includes}
 use Rattle.rewind_forms.specs.declared.version.Version.{Version}
 use Rattle.rewind_forms.specs.declared.version.Version.TheVariants.{Fifth, Sixth}
-use Rattle.rewind_forms.specs.declared.form.Form.{Form}
-use Rattle.rewind_forms.specs.declared.form.Form.TheVariants as line
+use Rattle.rewind_forms.specs.declared.form.LineForm.{LineForm}
+use Rattle.rewind_forms.specs.declared.form.LineForm.TheVariants as line
 use Rattle.rewind_forms.specs.declared.form.StepForm.{StepForm}
 use Rattle.rewind_forms.specs.declared.form.StepForm.TheVariants as form
 use Rattle.rewind_forms.specs.declared.fault.LineFault.{LineFault}
@@ -114,7 +114,7 @@ step_of v g form.Part d = part_of g d
 step_of v g form.Receive d = receive_of d
 
 -- the step, if the form is one of a step; otherwise a bad shape
-abbrev pub read_as : Dataflow → Data → Form → Result (Step Global) LineFault
+abbrev pub read_as : Dataflow → Data → LineForm → Result (Step Global) LineFault
 read_as g d (line.Step form) = step_of Sixth g form d
 read_as g d (line.Command form) = Err BadShape
 read_as g d (line.Query form) = Err BadShape

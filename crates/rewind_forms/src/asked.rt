@@ -7,9 +7,9 @@ ghost use Rattle.rewind_forms.specs.Asked.{asked_of as asked_in};
 use crate::commands::command_of;
 use crate::queries::query_of;
 use crate::steps::step_of;
-use crate::{Form, LineFault, Query, Version};
+use crate::{LineFault, LineForm, Query, Version};
+use nd_commands::Command;
 use nd_graph::Graph;
-use nd_timeline::Command;
 use serde_json::Value;
 use std::alloc::Global;
 
@@ -36,16 +36,16 @@ pub fn asked_of(
     ensures err { IfErr result (FailsWith (asked_in version graph.now (view value.now))) }
     ensures memory { IfErr result (HidesNoFault (asked_in version graph.now (view value.now))) }
 {
-    match Form::of(version, value).ok_or(LineFault::BadShape)? {
-        Form::Step(form) => {
+    match LineForm::of(version, value).ok_or(LineFault::BadShape)? {
+        LineForm::Step(form) => {
             let step = step_of(alloc, version, graph, form, value)?;
             Ok(Asked::Do(Command::Forward(step)))
         }
-        Form::Command(form) => {
+        LineForm::Command(form) => {
             let command = command_of(alloc, version, graph, form, value)?;
             Ok(Asked::Do(command))
         }
-        Form::Query(form) => {
+        LineForm::Query(form) => {
             let query = query_of(version, graph, form, value)?;
             Ok(Asked::Look(query))
         }

@@ -10,10 +10,10 @@ use crate::numbers::processors_of;
 use crate::optional::{smalls_if, whole_if};
 use crate::{CommandForm, LineFault, Version};
 use nd_breaks::BoxedCondition;
+use nd_commands::Command;
 use nd_graph::Graph;
 use nd_json::whole_at;
 use nd_protocol::Processors;
-use nd_timeline::Command;
 use serde_json::Value;
 use std::alloc::{AllocError, Global};
 

@@ -9,7 +9,7 @@ use serde_json::Value;
 
 /// What a line asks for, according to its word and its keys alone.
 #[derive(Clone, Copy, Debug, PartialEq, Eq, Drop)]
-pub enum Form {
+pub enum LineForm {
     Step(StepForm),
     Command(CommandForm),
     Query(QueryForm),
@@ -63,10 +63,10 @@ pub enum QueryForm {
     Reach,
 }
 
-impl Form {
+impl LineForm {
     /// Returns the form that the value has in a script of this version, or `None` if it has none.
     #[tactic(auto, unfolding(crate::specs::Grammar::form_of))]
-    pub fn of(version: Version, value: &Value) -> Option<Form>
+    pub fn of(version: Version, value: &Value) -> Option<LineForm>
         ensures { result ≡ form_in version (view value.now) }
     {
         let word = text_at(value, "do")?;
@@ -80,17 +80,17 @@ impl Form {
 }
 
 // Returns what the word and the keys of the object mean, and the first version whose scripts have it.
-fn meant_by(word: &str, value: &Value) -> Option<(Version, Form)>
+fn meant_by(word: &str, value: &Value) -> Option<(Version, LineForm)>
     ensures { result ≡ meant word.now (view value.now) }
 {
     if let Some((since, form)) = step_form(word, value) {
-        return Some((since, Form::Step(form)));
+        return Some((since, LineForm::Step(form)));
     }
     if let Some((since, form)) = command_form(word, value) {
-        return Some((since, Form::Command(form)));
+        return Some((since, LineForm::Command(form)));
     }
     let (since, form) = query_form(word, value)?;
-    Some((since, Form::Query(form)))
+    Some((since, LineForm::Query(form)))
 }
 
 // The keys of each object are in the order of their bytes.

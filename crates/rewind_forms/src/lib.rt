@@ -21,8 +21,8 @@ mod version;
 
 pub use asked::{Asked, asked_of};
 pub use fault::LineFault;
-pub use form::{CommandForm, Form, QueryForm, StepForm};
+pub use form::{CommandForm, LineForm, QueryForm, StepForm};
 pub use laws::steps_are_their_objects;
-pub use queries::{Query, Reach, Search, Turns, ViewChanges, WhyAtRest};
+pub use queries::{ConditionTurns, Query, Reach, Search, ViewChanges, WhyAtRest};
 pub use steps::read_step;
 pub use version::{Version, version_of};

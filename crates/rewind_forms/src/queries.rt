@@ -28,7 +28,7 @@ pub struct Search {
 
 /// The positions after `lo` and up to `hi` at which a condition began or ceased to hold.
 #[derive(Drop)]
-pub struct Turns {
+pub struct ConditionTurns {
     pub when: Condition,
     pub lo: u64,
     pub hi: u64,
@@ -89,7 +89,7 @@ pub enum Query {
     /// What the kept step that leads to a position changed.
     Effect(u64),
     /// The positions at which a condition began or ceased to hold.
-    Turns(Turns),
+    Turns(ConditionTurns),
     /// The times that can still arrive at a location, according to a processor's view.
     FrontierAt(u32, usize),
     /// The steps by which a condition can still come to hold.
@@ -201,7 +201,7 @@ fn turns_of(version: Version, graph: &Graph, value: &Value) -> Result<Query, Lin
     let hi = whole_at(value, "hi").ok_or(LineFault::BadShape)?;
     let shown = value.get("when").ok_or(LineFault::BadShape)?;
     let when = condition_of(version, graph, shown)?;
-    Ok(Query::Turns(Turns { when, lo, hi }))
+    Ok(Query::Turns(ConditionTurns { when, lo, hi }))
 }
 
 fn frontier_at_of(graph: &Graph, value: &Value) -> Result<Query, LineFault>

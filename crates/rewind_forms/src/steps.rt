@@ -11,7 +11,7 @@ use crate::places::{edge_named, placed, time_of, vertex_named};
 use crate::points::{are_known, are_placed, are_points, named_at, points_of};
 use crate::sends::{send_of, time_if};
 use crate::shapes::alone;
-use crate::{Form, LineFault, StepForm, Version};
+use crate::{LineFault, LineForm, StepForm, Version};
 use nd_graph::Graph;
 use nd_json::{has_text, integer_at, list_at, small, small_at, text_at};
 use nd_protocol::{BoxedTimes, Later, Next, Part, Step, Times};
@@ -206,8 +206,8 @@ pub fn read_step(alloc: Global, graph: &Graph, value: &Value) -> Result<Step, Li
     ensures err { IfErr result (FailsWith (read_in graph.now (view value.now))) }
     ensures memory { IfErr result (HidesNoFault (read_in graph.now (view value.now))) }
 {
-    match Form::of(Version::Sixth, value) {
-        Some(Form::Step(form)) => step_of(alloc, Version::Sixth, graph, form, value),
+    match LineForm::of(Version::Sixth, value) {
+        Some(LineForm::Step(form)) => step_of(alloc, Version::Sixth, graph, form, value),
         _ => Err(LineFault::BadShape),
     }
 }

@@ -39,12 +39,12 @@ use Rattle.nd_processor.specs.declared.key.ValueAt.{ValueAt}
 use Rattle.nd_processor.specs.declared.key.SinkKey.{SinkKey}
 use Rattle.nd_protocol.specs.declared.refusal.Refusal.{Refusal}
 use Rattle.nd_protocol.specs.declared.refusal.Refusal.TheVariants as why
-use Rattle.nd_timeline.specs.declared.fault.Fault.{Fault}
-use Rattle.nd_timeline.specs.declared.fault.Fault.TheVariants as fault
-use Rattle.nd_timeline.specs.declared.reply.Stop.{Stop}
-use Rattle.nd_timeline.specs.declared.reply.Stop.TheVariants as end
-use Rattle.nd_timeline.specs.declared.reply.Reply.{Reply}
-use Rattle.nd_timeline.specs.declared.reply.Reply.TheVariants.{Moved, Ran, Set, Cleared, Refused}
+use Rattle.nd_replies.specs.declared.fault.Fault.{Fault}
+use Rattle.nd_replies.specs.declared.fault.Fault.TheVariants as fault
+use Rattle.nd_replies.specs.declared.reply.Stop.{Stop}
+use Rattle.nd_replies.specs.declared.reply.Stop.TheVariants as end
+use Rattle.nd_replies.specs.declared.reply.Reply.{Reply}
+use Rattle.nd_replies.specs.declared.reply.Reply.TheVariants.{Moved, Ran, Set, Cleared, Refused}
 use Rattle.nd_why.specs.Account.{Account}
 use Rattle.nd_why.specs.declared.answer.Held.{Held}
 use Rattle.nd_why.specs.declared.answer.Held.TheVariants.{Records, Request, Token}

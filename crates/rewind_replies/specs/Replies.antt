@@ -9,13 +9,13 @@ use Rattle.rewind_replies.specs.Effects.{or_null}
 use Rattle.serde_json.specs.Written.{compact_text}
 use Rattle.nd_protocol.specs.declared.refusal.Refusal.{Refusal}
 use Rattle.nd_protocol.specs.declared.refusal.Refusal.TheVariants.{NoProcessor, NotYet, NotAdmissible}
-use Rattle.nd_timeline.specs.Faults.{code_of as code_of_fault}
-use Rattle.nd_timeline.specs.declared.fault.Fault.{Fault}
-use Rattle.nd_timeline.specs.declared.fault.Fault.TheVariants.{Step, Memory}
-use Rattle.nd_timeline.specs.declared.reply.Stop.{Stop}
-use Rattle.nd_timeline.specs.declared.reply.Stop.TheVariants as end
-use Rattle.nd_timeline.specs.declared.reply.Reply.{Reply}
-use Rattle.nd_timeline.specs.declared.reply.Reply.TheVariants.{Moved, Ran, Set, Cleared, Refused}
+use Rattle.nd_replies.specs.Faults.{code_of as code_of_fault}
+use Rattle.nd_replies.specs.declared.fault.Fault.{Fault}
+use Rattle.nd_replies.specs.declared.fault.Fault.TheVariants.{Step, Memory}
+use Rattle.nd_replies.specs.declared.reply.Stop.{Stop}
+use Rattle.nd_replies.specs.declared.reply.Stop.TheVariants as end
+use Rattle.nd_replies.specs.declared.reply.Reply.{Reply}
+use Rattle.nd_replies.specs.declared.reply.Reply.TheVariants.{Moved, Ran, Set, Cleared, Refused}
 
 -- the text is that of a reply which may be given
 abbrev pub IsReply : (Data → Type 0) → List ℕ → Type 0

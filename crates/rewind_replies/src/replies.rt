@@ -7,8 +7,8 @@ ghost use Rattle.rewind_replies.specs.Replies.{fault, refused, reply_data, step_
 use crate::object;
 use crate::shown::{Names, Shown};
 use nd_protocol::Refusal;
+use nd_replies::{Fault, Reply, Stop};
 use nd_time::Code;
-use nd_timeline::{Fault, Reply, Stop};
 use serde::Serializer;
 
 /// An error's number and name.

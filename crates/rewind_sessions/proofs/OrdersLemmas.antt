@@ -7,8 +7,8 @@ use Rattle.rewind_forms.specs.Asked.{asked_as, asked_of}
 use Rattle.rewind_forms.specs.Forms.{given, after}
 use Rattle.rewind_forms.specs.Grammar.{form_of}
 use Rattle.rewind_forms.specs.declared.version.Version.{Version}
-use Rattle.rewind_forms.specs.declared.form.Form.{Form}
-use Rattle.rewind_forms.specs.declared.form.Form.TheVariants.{Step, Command, Query}
+use Rattle.rewind_forms.specs.declared.form.LineForm.{LineForm}
+use Rattle.rewind_forms.specs.declared.form.LineForm.TheVariants.{Step, Command, Query}
 use Rattle.rewind_forms.specs.declared.asked.Asked.{Asked}
 use Rattle.rewind_forms.specs.declared.fault.LineFault.{LineFault}
 use Rattle.rewind_forms.specs.declared.fault.LineFault.TheVariants.{BadShape}
@@ -24,7 +24,7 @@ pub form_asks : (v : Version) (g : Dataflow) (d : Data) (a : Asked) → asked_of
 unfolding asked_of
 form_asks v g d a is = by (form_of v d) is
   where
-    by : (o : Option Form) → given BadShape o (asked_as v g d) ≡ Ok a → is_query o ≡ asks_query a
+    by : (o : Option LineForm) → given BadShape o (asked_as v g d) ≡ Ok a → is_query o ≡ asks_query a
     by None h = absurd (cc h)
     by (Some (Step form)) h = after_asks false _ _ a (λ x. refl) h
     by (Some (Command form)) h = after_asks false _ _ a (λ x. refl) h

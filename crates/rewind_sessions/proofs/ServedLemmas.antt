@@ -5,8 +5,8 @@ use Rattle.std.specs.Prelude.{IsTrue, filter, option_map, slice_get}
 use Rattle.std.proofs.lemmas.Option.{slice_get-map, slice_get_within, slice_get_cases}
 use Rattle.std.proofs.lemmas.List.{length-map, map-append}
 use Rattle.std.proofs.lemmas.List.Elements.{All-append}
-use Rattle.nd_timeline.specs.declared.command.Command.{Command}
-use Rattle.nd_timeline.specs.Moves.{MachineValue}
+use Rattle.nd_commands.specs.declared.command.Command.{Command}
+use Rattle.nd_machine.specs.Moves.{MachineValue}
 use Rattle.nd_session.specs.Clients.{ClientValue, IsHistory}
 use Rattle.nd_time.specs.Limits.{max_log}
 use Rattle.nd_session.specs.Close.{IsWhole}

@@ -9,8 +9,8 @@ use Rattle.rewind_forms.specs.Asked.{asked_of}
 use Rattle.rewind_forms.specs.LineFaults.{code_of as code_of_line}
 use Rattle.rewind_replies.specs.Replies.{faulty}
 use Rattle.rewind_forms.specs.declared.version.Version.{Version}
-use Rattle.rewind_forms.specs.declared.form.Form.{Form}
-use Rattle.rewind_forms.specs.declared.form.Form.TheVariants.{Step, Command, Query}
+use Rattle.rewind_forms.specs.declared.form.LineForm.{LineForm}
+use Rattle.rewind_forms.specs.declared.form.LineForm.TheVariants.{Step, Command, Query}
 use Rattle.rewind_forms.specs.declared.asked.Asked.{Asked}
 use Rattle.rewind_forms.specs.declared.asked.Asked.TheVariants.{Do, Look}
 use Rattle.rewind_forms.specs.declared.fault.LineFault.{LineFault}
@@ -21,7 +21,7 @@ use Rattle.rewind_sessions.specs.declared.order.OrderFault.{OrderFault}
 use Rattle.rewind_sessions.specs.declared.order.OrderFault.TheVariants.{Line, BadClient, OneClientOnly}
 
 -- whether the line has the form of a query
-abbrev pub is_query : Option Form → Bool
+abbrev pub is_query : Option LineForm → Bool
 is_query None = false
 is_query (Some (Step form)) = false
 is_query (Some (Command form)) = false

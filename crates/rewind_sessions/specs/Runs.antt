@@ -7,8 +7,8 @@ use Rattle.nd_time.specs.Code.{Code}
 use Rattle.nd_time.specs.Limits.{max_log}
 use Rattle.nd_graph.specs.Graph.{Dataflow}
 use Rattle.nd_timeline.specs.Timeline.{cluster_of}
-use Rattle.nd_timeline.specs.Moves.{MachineValue}
-use Rattle.nd_timeline.specs.declared.command.Command.{Command}
+use Rattle.nd_machine.specs.Moves.{MachineValue}
+use Rattle.nd_commands.specs.declared.command.Command.{Command}
 use Rattle.nd_session.specs.Clients.{IsHistory}
 use Rattle.nd_session.specs.Faults.{code_of}
 use Rattle.nd_session.specs.declared.close.Log.{Log}

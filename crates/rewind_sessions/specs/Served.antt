@@ -1,7 +1,7 @@
 -- What each client did. Only private contracts use these definitions.
 use Rattle.std.specs.Prelude.{◌≡◌, ℕ, List, [], length, map, slice_get, Some, IfSome}
 use Rattle.std.specs.declared.alloc.Global.{Global}
-use Rattle.nd_timeline.specs.declared.command.Command.{Command}
+use Rattle.nd_commands.specs.declared.command.Command.{Command}
 use Rattle.nd_session.specs.Faults.{CommandMayFail}
 use Rattle.nd_session.specs.declared.receipt.Receipt.{Receipt}
 use Rattle.rewind_sessions.specs.Runs.{IsServed, MayEnd}

@@ -7,10 +7,10 @@ ghost use Rattle.rewind_sessions.specs.Runs.{is_full as is_full_in, IsOfDriving,
 
 use crate::gated::Gated;
 use crate::same::same_graph;
+use nd_commands::Command;
 use nd_history::Gate;
 use nd_session::{Client, Log, Session, SessionFault, State};
 use nd_time::limits::MAX_LOG;
-use nd_timeline::Command;
 use rewind_options::DebugFault;
 use std::alloc::{AllocError, Global};
 use std::sync::Wait;

@@ -3,9 +3,9 @@ ghost use Rattle.std.specs.Prelude.{◌≡◌, ◌++◌, ◌∷◌, [], length, 
 ghost use Rattle.nd_session.specs.Clients.{IsReceiptFor};
 ghost use Rattle.nd_session.specs.Faults.{CommandMayFail};
 
+use nd_commands::Command;
 use nd_history::Gate;
 use nd_session::{Client, Receipt, Session, SessionFault};
-use nd_timeline::Command;
 use std::alloc::Global;
 use std::sync::Wait;
 

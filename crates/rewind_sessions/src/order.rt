@@ -6,11 +6,11 @@ ghost use Rattle.rewind_forms.specs.Grammar.{form_of};
 ghost use Rattle.rewind_sessions.specs.Orders.{among, asks_query, is_query as is_query_in, order_of as order_in_value, order_in as order_in_line, code_of};
 
 use crate::numbers::without;
+use nd_commands::Command;
 use nd_graph::Graph;
 use nd_json::whole_at;
 use nd_time::Code;
-use nd_timeline::Command;
-use rewind_forms::{Asked, Form, LineFault, Version, asked_of};
+use rewind_forms::{Asked, LineFault, LineForm, Version, asked_of};
 use rewind_lines::Reading;
 use serde_json::Value;
 use std::alloc::{AllocError, Global};
@@ -55,7 +55,7 @@ fn is_query(version: Version, value: &Value, asked: &Result<Asked, LineFault>) -
     match asked {
         Ok(Asked::Do(_)) => false,
         Ok(Asked::Look(_)) => true,
-        Err(_) => matches!(Form::of(version, value), Some(Form::Query(_))),
+        Err(_) => matches!(LineForm::of(version, value), Some(LineForm::Query(_))),
     }
 }
 

@@ -13,8 +13,8 @@ CRATES = [
     "rewind_lines",
     "rewind_lines",
     "nd_json rewind_forms",
-    "nd_timeline",
-    "nd_timeline",
+    "nd_machine",
+    "nd_machine",
     "rewind_replies",
     "rewind_lines",
 ]

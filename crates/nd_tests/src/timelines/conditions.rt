@@ -5,9 +5,9 @@ use crate::opened::only;
 use crate::timelines::memory::Heap;
 use nd_breaks::{Atom, Breaks, Condition, Literal, NoBreak, TooManyBreaks, TooManyLiterals};
 use nd_cluster::{Cluster, Step};
+use nd_commands::Command;
 use nd_examples::{LINE, start};
 use nd_testing::{Refusing, unasked};
-use nd_timeline::Command;
 use std::alloc::{Allocator, Global};
 use std::mem::size_of;
 

@@ -10,6 +10,7 @@ use nd_examples::{
     start, step_of,
 };
 use nd_history::{Snapshot, changes, effect, turns};
+use nd_machine::run;
 use nd_testing::{Refusing, in_turn};
 use nd_timeline::Timeline;
 use std::alloc::{Allocator, Global};
@@ -102,15 +103,15 @@ fn jump<A: Allocator + Copy>(timeline: &mut Timeline<A>) -> Option<()> {
 }
 
 /// Runs all processors, then the first, and then the first by a seed, from the first position.
-fn run<A: Allocator + Copy>(alloc: A, timeline: &mut Timeline<A>) -> Option<()> {
+fn run_thrice<A: Allocator + Copy>(alloc: A, timeline: &mut Timeline<A>) -> Option<()> {
     let breaks = Breaks::new(alloc).ok()?;
     timeline.jump(1).ok()?;
     run_all(timeline, 10, &breaks).ok()?;
     timeline.jump(1).ok()?;
     let only = Some(processors_of(alloc, &[0, 0])?);
-    timeline.run(10, only.as_ref(), None, &breaks).ok()?;
+    run(timeline, 10, only.as_ref(), None, &breaks).ok()?;
     timeline.jump(1).ok()?;
-    timeline.run(10, only.as_ref(), Some(1), &breaks).ok()?;
+    run(timeline, 10, only.as_ref(), Some(1), &breaks).ok()?;
     Some(())
 }
 
@@ -158,7 +159,7 @@ fn ask<A: Allocator + Copy>(json: Global, alloc: A, script: &Script) -> Option<(
     walk(alloc, &timeline)?;
     list(alloc, &timeline)?;
     jump(&mut timeline)?;
-    run(alloc, &mut timeline)
+    run_thrice(alloc, &mut timeline)
 }
 
 /// Returns how many requests were refused before the calls met none.

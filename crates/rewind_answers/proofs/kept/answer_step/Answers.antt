@@ -1,8 +1,8 @@
 use Rattle.std.proofs.Common.{◌∙◌, ap, arith, inl, inr, refl}
 use Rattle.serde_json.specs.Data.{Data}
 use Rattle.nd_graph.specs.Graph.{Dataflow}
-use Rattle.nd_timeline.specs.Faults.{code_of}
-use Rattle.nd_timeline.specs.declared.fault.Fault.TheVariants.{NoSuchPoint}
+use Rattle.nd_replies.specs.Faults.{code_of}
+use Rattle.nd_replies.specs.declared.fault.Fault.TheVariants.{NoSuchPoint}
 use Rattle.nd_state_json.specs.Objects.{object_of}
 use Rattle.rewind_replies.specs.Replies.{fault, kept_step}
 use Rattle.rewind_answers.proofs.TextLaws.{tells}

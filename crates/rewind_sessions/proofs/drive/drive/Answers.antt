@@ -2,7 +2,7 @@ use Rattle.std.proofs.Common.{rules, ◌≡◌, ◌++◌, ◌∙◌, length, tak
 use Rattle.std.proofs.lemmas.List.{map-id}
 use Rattle.std.proofs.lemmas.Iterator.Adapters.{YieldsList-from_vec}
 use Rattle.std.proofs.lemmas.Iterator.Consumers.{YieldsList-so_far, YieldsList-turn}
-use Rattle.nd_timeline.specs.declared.command.Command.{Command}
+use Rattle.nd_commands.specs.declared.command.Command.{Command}
 use Rattle.std.specs.declared.alloc.Global.{Global}
 use Rattle.rewind_sessions.specs.Served.{asked}
 use Rattle.rewind_sessions.proofs.drive.drive.Goals as goal

@@ -1,0 +1,6 @@
+//! Commands to the debugger machine, as data.
+#![tactic(auto)]
+
+mod command;
+
+pub use command::Command;

@@ -1,0 +1,5 @@
+pub mod MovesLemmas
+pub mod RunLemmas
+pub mod RepliesLemmas
+pub mod RunLaws
+pub mod SeedsLemmas

@@ -1,9 +1,0 @@
-use Rattle.nd_timeline.proofs.RunLemmas.{one_choice}
-use Rattle.nd_timeline.proofs.RepliesLemmas.{replies_determine}
-use Rattle.nd_timeline.proofs.laws.replies_determine_machines.Goals as goal
-
-pub returns-clause-choice : goal.returns-clause-choice
-returns-clause-choice g c = one_choice {A = g.row.A.Denot}
-
-pub returns-clause-machine : goal.returns-clause-machine
-returns-clause-machine g c = replies_determine g.row.A.Denot c.candidates_are_in_turn.ensures.first
