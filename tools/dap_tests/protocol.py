@@ -86,7 +86,7 @@ WRONG += [{"threadId": 1, "frameId": 1, "text": "", "column": {}, "name": "words
 WRONG += [{"variablesReference": -1, "frameId": 1001, "expression": "{", "context": "watch", "name": ""}]
 LAUNCHES = {
     "launch needs 'program'": {},
-    "'processors' is a number from 1 to 16": {"program": STUCK, "processors": 17},
+    "'processors' is a number from 1 to 64": {"program": STUCK, "processors": 65},
     "'processors' is a number": {"program": STUCK, "processors": True},
     "/nowhere: No such file or directory": {"program": "/nowhere"},
     "Is a directory": {"program": "/"},

@@ -372,8 +372,8 @@ MISREAD = {
         "m (operator 2) delays by 1 from input 0 to output 0"),
     "workers who do not agree": ([*line_but(2, name="n"), *logs_of(1, [])], "unsupported: w1, line 3",
         "operator 2 (m) is another one in the other logs"),
-    "seventeen workers": (line_but(5, source=16), "unsupported: w0, line 6",
-        "worker 16; at most 16 workers"),
+    "sixty-five workers": (line_but(5, source=64), "unsupported: w0, line 6",
+        "worker 64; at most 64 workers"),
     "seventeen channels from an output": (
         [[operates(1, "a", 0, 1), operates(2, "m", 17, 0), *(channel([1, 0], [2, it]) for it in range(17))]],
         "unsupported: w0, line 19", "a 1 out 0 has more than 16 channels"),

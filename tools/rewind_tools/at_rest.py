@@ -13,25 +13,31 @@ LAST_COUNTER = (1 << 32) - 1
 def why_at_rest(follower, queries):
     """The queries, each with the program's reply to 'why' at rest."""
     ask, depths = follower.program.asked, follower.merging.places.depths
-    timed = [it for query in queries for it in with_times(ask, query, depths[query["at"]])]
+    order = follower.program.graph.get("order")
+    timed = [it for query in queries for it in with_times(ask, query, depths[query["at"]], order)]
     return [(it, ask({**it, "rest": MOST})) for it in timed]
 
 
-def with_times(ask, query, depth):
+def with_times(ask, query, depth, order):
     """A query; one without a time at each least time to which something leads that is left at rest."""
     if "time" in query:
         return [query]
     reply = ask({**query, "time": [LAST_COUNTER] * (depth + 1), "rest": MOST})
-    found = {least_time(ask, it["point"], query["at"], depth) for it in reply["reasons"]}
-    return [{**query, "time": [*it]} for it in sorted(found) if not any(is_before(one, it) for one in found)]
+    found = sorted({least_time(ask, it["point"], query["at"], depth) for it in reply["reasons"]})
+    least = [it for it in found if not any(is_before(one, it, order) for one in found)]
+    return [{**query, "time": [*it]} for it in least]
 
 
-def is_before(one, other):
+def is_before(one, other, order=None):
+    """Whether a time is strictly before another of its depth in a graph of an order."""
+    if order == "product":
+        return one != other and all(map(int.__le__, one, other))
     return one != other and one[0] <= other[0] and one[1:] <= other[1:]
 
 
 def least_time(ask, point, place, depth):
-    """The least time at a place to which something leads that is at a point: of the point's epoch."""
+    """The least time at a place to which something leads that is at a point: of the point's epoch, and of
+    several that are not comparable the first."""
     time = [point[1][0]] + [LAST_COUNTER] * depth
     for at in range(1, depth + 1):
         lo, hi = 0, LAST_COUNTER

@@ -18,6 +18,9 @@ NAME[INPUTS,OUTPUTS] declares an operator by its ports (rewind_tools/ports.py), 
 leads to each output. After the numbers may stand which lead where, as 0>0 1>1 or none, starts=false and
 depth=NUMBER. An arrow to such an operator may have to=NUMBER, its input, and port= is an output.
 
+A line order=product gives the order of the graph's times, as order=lexicographic, which is that of a graph
+without such a line.
+
 A depth that is not given follows along the edges from the inputs, which are at depth 0, and from the depths
 that are given. Where there is neither, the first vertex is at depth 0. # begins a comment. A name with other
 characters than letters, digits, _ . / : + * and single hyphens is written as a JSON text, as "a#1". In a
@@ -34,11 +37,12 @@ from typing import NamedTuple
 
 from rewind_tools import ports
 from rewind_tools.runs import json_of
-from rewind_tools.script import LAST, MOST_PORTS, OPS, OPTIONAL_OF_OPS
+from rewind_tools.script import LAST, MOST_PORTS, OPS, OPTIONAL_OF_OPS, ORDERS
 from rewind_tools.short_names import Names
 from rewind_tools.telling import values
 from rewind_tools.telling.forms import listed, nearest
-from rewind_tools.telling.graph_faults import BEYOND, double_names, name_fault, shape_faults, unknown_names
+from rewind_tools.telling.graph_faults import BEYOND, double_names, name_fault, name_words, shape_faults
+from rewind_tools.telling.graph_faults import unknown_names
 
 # A line that is printed is longer only for a single edge.
 WIDTH = 100
@@ -46,11 +50,11 @@ PLAIN = re.compile(r"[\w./:+*]+(?:-[\w./:+*]+)*", re.ASCII)
 WORD, KEY, NUMBER = re.compile(r"[A-Za-z]+"), re.compile(r"([A-Za-z]+)[ \t]*="), re.compile(r"-?[0-9]+")
 BLANKS = re.compile(r"[ \t]*")
 # How a text of paths begins in a script.
-BEGINS = re.compile(r'\s*(?:"(?:\\.|[^"\\])*"|[^\s"{}()\[\]]+)\s*(?:\(|--|\[\d)|[^{]*-->')
+BEGINS = re.compile(r'\s*(?:"(?:\\.|[^"\\])*"|[^\s"{}()\[\]]+)\s*(?:\(|--|\[\d)|[^{]*-->|\s*order *=')
 ARROWS = "an arrow is -->, --exchange-->, --[NAME]--> or --port=1-->"
 LIMITS = {"k": values.SIGNED, "ports": (0, MOST_PORTS)}
 LIMITS.update(dict.fromkeys(("depth", "port", "to"), values.SMALL))
-LEAD = re.compile(r"[0-9]+>[0-9]+|none\b")
+LEAD, ORDER = re.compile(r"[0-9]+>[0-9]+|none\b"), re.compile(r"order[ \t]*=[ \t]*([A-Za-z]*)")
 PORT_KEYS = "stand ways, as 0>0, of an input to an output, or none, starts= and depth="
 FLAGS = [key for of in OPS.values() for key, kind in of.items() if kind == "flag"]
 # How many faults of a value are said.
@@ -112,11 +116,11 @@ class Vertex(NamedTuple):
 
 
 class Parts:
-    """What has been read of a graph: its vertices by their names, its edges, the line of each name, and the
-    operators by their ports."""
+    """What has been read of a graph: its vertices by their names, its edges, the line of each name, the
+    operators by their ports, and the order of its times by the key, if it is given."""
 
     def __init__(self):
-        self.vertices, self.edges, self.named, self.operators = {}, [], {}, {}
+        self.vertices, self.edges, self.named, self.operators, self.order = {}, [], {}, {}, {}
 
     def name(self, name, line, at, advice=""):
         """Notes that a vertex or an edge has a name, which no other may have."""
@@ -144,8 +148,7 @@ def read_name(line, of):
             raise line.wrong(f"a name with {values.shown(odd)} in it is written in quotation marks")
     fault = "is not a name" if re.search(r"[\ud800-\udfff]", name) else line.name_fault(name)
     if fault:
-        wrong = f"the name {values.shown(name)} {fault}; a name has 1 to 32 bytes, each from ! to ~"
-        raise line.wrong(wrong, begin)
+        raise line.wrong(f"the name {values.shown(name)} {fault}; a name has {name_words()}", begin)
     return name
 
 
@@ -294,6 +297,19 @@ def read_arrow(line):
     return given
 
 
+def read_order(line, parts):
+    """The order of a graph's times, if a line gives that; whether it does."""
+    order = line.take(ORDER)
+    if order is None:
+        return False
+    if order not in ORDERS or parts.order or not line.is_at_end():
+        twice = "the order is given twice"
+        right = f"order= is {listed(ORDERS, 'or')}, in a line of its own"
+        raise line.wrong(twice if parts.order else right, 0)
+    parts.order = {"order": order}
+    return True
+
+
 def read_path(line, parts):
     """A path: vertices with an arrow between each two."""
     start = read_vertex(line, parts)
@@ -359,7 +375,7 @@ def read(lines, first=1, any_names=False):
         line = Scanner(text, number, any_names)
         if line.text.startswith("{"):
             raise line.wrong("an empty line ends the graph, and comes before the lines of the script")
-        if not line.is_at_end():
+        if not line.is_at_end() and not read_order(line, parts):
             read_path(line, parts)
     given = {name: it.given["depth"] for name, it in parts.vertices.items() if "depth" in it.given}
     known = depths({name: it.op for name, it in parts.vertices.items()}, parts.edges, given)
@@ -371,7 +387,7 @@ def read(lines, first=1, any_names=False):
             raise at_place(it.number, it.column, f"{why}; {advice}")
         more = {key: it.given[key] for key in OPS[it.op] if key in it.given}
         vertices.append({"name": name, "op": it.op, "depth": known[name], **more})
-    return {"vertices": vertices, "edges": parts.edges}
+    return {"vertices": vertices, "edges": parts.edges, **parts.order}
 
 
 def written(name):
@@ -456,11 +472,12 @@ def text_of(graph):
     faults = shape_faults(short, LAST) or double_names(short) or unknown_names(short)
     if faults:
         raise Wrong("; ".join(faults[:MOST_FAULTS]))
-    by_ports = printed(ports.folded(graph))
+    order = f"order={graph['order']}\n" if "order" in graph else ""
+    by_ports = order + printed(ports.folded(graph))
     with contextlib.suppress(Wrong):
         if read(by_ports.split("\n"), any_names=True) == graph:
             return by_ports
-    return printed(ports.folded(graph, {}))
+    return order + printed(ports.folded(graph, {}))
 
 
 def printed(graph):

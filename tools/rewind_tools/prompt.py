@@ -17,7 +17,7 @@ from rewind_tools.script import COMMANDS, FORMS, QUERIES, STEPS
 from rewind_tools.session import write_text
 from rewind_tools.sources import places_of, remove_others
 from rewind_tools.telling.answers import all_candidates
-from rewind_tools.telling.commands import command_words, counted, edge_words, vertex_words
+from rewind_tools.telling.commands import command_words, counted, edge_words, order_words, vertex_words
 from rewind_tools.tool import words_of
 from rewind_tools.typed import NotTyped, condition_help, line_of, usage, words_of_line
 
@@ -275,6 +275,8 @@ class Prompt(cmd.Cmd, Debugger):
             for edge in self.teller.graph.edges.values():
                 if edge["from"] == vertex["name"]:
                     self.say(f"    {edge_words(edge)}")
+        for it in order_words(self.session.graph):
+            self.say(it)
         return None
 
     def do_export(self, rest):

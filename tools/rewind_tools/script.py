@@ -58,11 +58,9 @@ SINCE = {
     "export": 2, "why": 3, "changes": 3, "step": 3, "candidates": 4, "effect": 4, "turns": 4, "release": 5,
     "send": 6, "reach": 7,
 }  # fmt: skip
-LAST = 8
+LAST = 9
 # The words of "next"; from a later version on, it may also be {"to": n}.
 NEXTS, NEXT_TO_SINCE = ("next", "close", "stay"), 5
-# The most processors under "only".
-MOST_ONLY = 16
 # The words under "with": which steps of users are among the moves.
 USERS = ("feed", "release")
 # The operators, each with the keys that its vertices have beside their name, their operator and their depth,
@@ -75,6 +73,9 @@ OPS = {
 }  # fmt: skip
 OPTIONAL_OF_OPS = ("starts",)
 OPS_SINCE = {"hold": 5, "opaque": 6}
+# The orders of a graph's timestamps, the one that a graph without the key has first, and the version with
+# which the key "order" came.
+ORDERS, ORDER_SINCE = ("lexicographic", "product"), 9
 # The operators whose requests are held capabilities.
 HOLDING = ("hold", "opaque")
 # The most output ports of an opaque vertex.
@@ -87,10 +88,13 @@ ATOMS = {
     "sink": {"at_least": "whole", "value": "signed", "vertex": "vertex"},
     "finished": {"at": "place", "time": "time"},
     "view": {"at": "place", "at_least": "signed", "q": "small", "time": "time"},
+    "held": {"at": "place", "at_least": "whole", "p": "small", "time": "time"},
 }
 # The version with which an atom came, if it is not the first, and that with which "not", "all" and "any"
 # came.
-ATOMS_SINCE, LITERALS_SINCE = {"finished": 4, "view": 4}, 4
+ATOMS_SINCE, LITERALS_SINCE = {"finished": 4, "view": 4, "held": 9}, 4
+# The most bytes of a line.
+LONGEST = 65536
 # The most literals under "all" and "any".
 MOST_LITERALS = 8
 ERRORS = {
@@ -128,6 +132,31 @@ def form_of(word, version):
 def ops_of(version):
     """The operators of a script's version."""
     return [op for op in OPS if OPS_SINCE.get(op, 1) <= version]
+
+
+def most_processors(version):
+    """The most processors in a script of a version."""
+    return 8 if version == 1 else 16 if version < 9 else 64
+
+
+def most_only(version):
+    """The most processors under "only"."""
+    return max(16, most_processors(version))
+
+
+def most_locations(version):
+    """The most vertices and edges of a graph."""
+    return 64 if version < 6 else 256 if version < 9 else 4096
+
+
+def name_limits(version):
+    """The most bytes of a name, and the least byte."""
+    return (32, "!") if version < 9 else (128, " ")
+
+
+def longest_graph(version):
+    """The most bytes of the graph's line; every other line has at most LONGEST."""
+    return LONGEST if version < 9 else 2097152
 
 
 def atoms_of(version):

@@ -60,7 +60,7 @@ class Session:
     each note of ./rewind is given to `on_note`."""
 
     def __init__(self, graph, words=(), version=LAST, on_note=None):
-        self.graph, self.words, self.version, self.names = graph, list(words), version, Names(graph)
+        self.graph, self.words, self.version, self.names = graph, list(words), version, Names(graph, version)
         self.errors = tempfile.TemporaryFile()
         parent = os.getpid()
         how = {"stdin": subprocess.PIPE, "stdout": subprocess.PIPE, "stderr": self.errors}

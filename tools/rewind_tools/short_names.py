@@ -1,6 +1,6 @@
 """Short names for the program, in place of those of a graph that it does not take.
 
-    names = Names(graph)
+    names = Names(graph, 9)             in a script of this version; the last one, if none is given
     names.graph                 the graph with short names; the graph itself, if it needs none
     names.short                 by a name that the program does not take its short one
     names.given(b"..")          a line as the program gets it
@@ -11,38 +11,41 @@ an operator by its ports (ports.py)."""
 import json
 import re
 
-# The longest name, and what of one is left for an operator whose ports have numbers of two digits.
-MOST, MOST_OF_OPERATOR = 32, 26
+from rewind_tools.script import LAST, name_limits
+
+# How many bytes of a name are kept for the numbers of an operator's ports.
+OF_PORT = 6
 PORT = re.compile(r"(.+)(\.(?:in[0-9]+|out[0-9]+|[0-9]+-[0-9]+))", re.S)
 TEXT = re.compile(rb'"(?:[^"\\]|\\.)*"')
 
 
-def fits(name):
-    """Whether the program takes a name."""
-    return 0 < len(name) <= MOST and all("!" <= it <= "~" for it in name)
-
-
 class Names:
-    def __init__(self, graph):
+    def __init__(self, graph, version=LAST):
         self.graph, self.short, self.bases = graph, {}, {}
+        self.most, self.first = name_limits(version)
         self.items = items_of(graph)
         found = dict.fromkeys(it["name"] for it in self.items)
-        self.taken = {it for it in found if fits(it)}
+        self.taken = {it for it in found if self.fits(it)}
         for it in found:
-            if it and not fits(it):
+            if it and not self.fits(it):
                 self.short[it] = self.shortened(it)
         if self.short:
-            self.graph = {key: [self.renamed(it) for it in graph[key]] for key in graph}
+            items = {key: [self.renamed(it) for it in graph[key]] for key in ("vertices", "edges")}
+            self.graph = {**graph, **items}
         pairs = [(json.dumps(it).encode(), json.dumps(short).encode()) for it, short in self.short.items()]
         self.by_name, self.by_short = dict(pairs), {short: it for it, short in pairs}
         plain = {json.dumps(it, ensure_ascii=False).encode(): short for it, short in self.short.items()}
         self.by_name |= {it: json.dumps(short).encode() for it, short in plain.items()}
 
+    def fits(self, name):
+        """Whether the program takes a name."""
+        return 0 < len(name) <= self.most and all(self.first <= it <= "~" for it in name)
+
     def shortened(self, name):
         port = PORT.fullmatch(name)
         base, suffix = port.groups() if port else (name, "")
         if base not in self.bases:
-            self.bases[base] = self.new_base(base, MOST_OF_OPERATOR if port else MOST)
+            self.bases[base] = self.new_base(base, self.most - OF_PORT if port else self.most)
         return self.bases[base] + suffix
 
     def new_base(self, base, most):

@@ -16,9 +16,10 @@ import sys
 import time
 
 from rewind_tools import graph_text
+from rewind_tools.script import LAST, most_processors
 from rewind_tools.session import Ended
 
-MOST = {"processors": 16, "clients": 64}
+MOST = {"processors": most_processors(LAST), "clients": 64}
 FAILED, INTERRUPTED = 1, 130
 # How many seconds there are between two words of progress.
 BETWEEN = 3

@@ -45,6 +45,7 @@ ATOM_KEYS = {
     "finished": ["at", "time"],
     "count": ["at", "time", "at_least"],
     "view": ["q", "at", "time", "at_least"],
+    "held": ["p", "at", "time", "at_least"],
     "queue": ["from", "to", "at_least"],
     "sink": ["vertex", "value", "at_least"],
 }
@@ -53,6 +54,7 @@ HOLDS = {
     "finished": "nothing is at or before the location and time, on any processor, or ever will be",
     "count": "at least N records, requests and tokens are there",
     "view": "the view of processor P counts at least N there",
+    "held": "processor P itself has at least N records, requests and tokens there",
     "queue": "at least N changes are on their way from the first processor to the second",
     "sink": "the sinks of VERTEX have counted VALUE at least N times",
 }

@@ -207,7 +207,7 @@ TOLD = {
     ], 0, [
         (2, '"help" is not a command or query; the commands of version 1 are feed, take, notice, broadcast, '
             'receive, back, redo, jump, run,'),
-        (2, "the queries are state, count, before, view, frontier, passed, search version 8 adds send, "
+        (2, "the queries are state, count, before, view, frontier, passed, search version 9 adds send, "
             "release, export, why, changes, step, candidates, effect, turns, reach"),
         (3, '"quit" is not a command or query; the end of the input ends the run'),
         (4, '{"do":"run","limit":1000} executes up to 1,000'),
@@ -220,7 +220,7 @@ TOLD = {
     "the same of version 3": ([], [
         V3, LINE, do("help"), do("step"), do("step", at=7), "step 4", "why 1 z [2]", "c",
     ], 0, [
-        (3, "frontier, passed, search, export, why, changes, step version 8 adds send, release, candidates, "
+        (3, "frontier, passed, search, export, why, changes, step version 9 adds send, release, candidates, "
             "effect, turns, reach; its first line is"),
         (3, "docs/SCRIPT.md shows the form of each"), (4, 'expected {"do":"step","to":0}'),
         (4, '{"do":"run","limit":1} executes the next step'), (5, 'expected {"do":"step","to":7}'),
@@ -245,7 +245,7 @@ TOLD = {
         (4, 'the line is not JSON; expected {"client":0,"do":"back"}'),
     ]),
     "clients' help": (["--clients", "2"], [*CLIENTS, '{"client":1,"do":"help"}'], 2, [
-        (4, "run, break, unbreak (31 BadShape) several clients have no queries version 8 adds send, "
+        (4, "run, break, unbreak (31 BadShape) several clients have no queries version 9 adds send, "
             "release; its first line is"),
         (4, 'as {"client":0,"do":"back"}'),
     ]),
@@ -369,8 +369,8 @@ TOLD = {
         (3, '"export" came with version 2'), (4, '"whi" is not a command or query; the words are'),
         (5, "only before the graph"),
     ]),
-    "another version": ([], ['{"version":9}', LINE], 2, [
-        (1, "(40 Shape)"), (1, 'faulty: a version line is {"version":N} alone, N from 2 to 8'),
+    "another version": ([], ['{"version":10}', LINE], 2, [
+        (1, "(40 Shape)"), (1, 'faulty: a version line is {"version":N} alone, N from 2 to 9'),
     ]),
     "a version twice": ([], [V2, V2, LINE], 2, [
         (1, "of version 2"), (2, "(40 Shape)"), (2, "faulty: a version line is"),

@@ -126,7 +126,7 @@ OPAQUE_TOLD = {
         V5, json.dumps(graph([vertex(f"z{n}", "sink") for n in range(65)], [])),
     ], 2, [
         (2, "(45 TooLarge)"),
-        (2, "faulty: there are 65 vertices and edges; the limit is 64; in version 8 at most 256"),
+        (2, "faulty: there are 65 vertices and edges; the limit is 64; in version 9 at most 4096"),
     ]),
     "a graph of 256 locations": ([], [
         V6, json.dumps(graph([A, *(vertex(f"z{n}", "sink") for n in range(255))], [])),

@@ -8,7 +8,7 @@
     program.again([b"..", ..])                  a new process, which executes these lines first
     program.close()
 
-The program takes short names alone: it is given one for each other name of the graph (short_names.py)."""
+The program is given a short name for each that it does not take (short_names.py)."""
 import json
 import time
 
@@ -20,7 +20,7 @@ from rewind_tools.telling.graph_faults import graph_faults
 from rewind_tools.tool import Fault
 
 # The versions in which a run can be followed, the last first.
-VERSIONS = (LAST, 6, 5)
+VERSIONS = (LAST, 8, 6, 5)
 # How many lines are executed again at once.
 PIECE = 2_000
 # How many seconds pass before it is said how far the work is; then that many times as long pass.
@@ -51,8 +51,7 @@ class GraphRefused(Exception):
 
 class Program:
     def __init__(self, graph, workers, on_note):
-        self.graph, self.names = graph, Names(graph)
-        self.words = ["--processors", str(workers)]
+        self.graph, self.words = graph, ["--processors", str(workers)]
         self.on_note, self.noted, self.progress = on_note, set(), Reporter("follow", on_note)
         self.session = self.opened()
         self.version, reply = self.session.version, self.session.started
@@ -63,10 +62,14 @@ class Program:
     def opened(self):
         for version in VERSIONS[:-1]:
             try:
-                return Session(self.names.graph, self.words, version, self.note)
+                return self.opened_in(version)
             except VersionRefused:
                 pass
-        return Session(self.names.graph, self.words, VERSIONS[-1], self.note)
+        return self.opened_in(VERSIONS[-1])
+
+    def opened_in(self, version):
+        self.names = Names(self.graph, version)
+        return Session(self.names.graph, self.words, version, self.note)
 
     def note(self, text):
         """Passes a note of ./rewind on, once for all processes."""

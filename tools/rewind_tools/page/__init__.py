@@ -7,7 +7,9 @@ import os
 import re
 from html import escape
 
-from rewind_tools.showing.graphs import graph_svg, laid_out, prefix_of, without_prefix
+from rewind_tools.script import ORDERS
+from rewind_tools.showing.graphs import graph_svg, laid_out, prefix_of, too_large, without_prefix
+from rewind_tools.telling.commands import order_words
 
 FOLDER = os.path.dirname(os.path.abspath(__file__))
 MODULES = sorted(it for it in os.listdir(FOLDER) if it.endswith(".js"))
@@ -27,6 +29,10 @@ WORDS = {
         "keys": "\u2190 \u2192 positions \u00b7 PgUp PgDn lines \u00b7 Home End ends \u00b7 + \u2212 0 zoom",
     },
 }  # fmt: skip
+
+
+# What stands in place of a graph's picture, after the reason.
+NOT_DRAWN = "Ask about a vertex or an edge by its name, beside 'at' under 'Why not finished?'."
 
 
 def part(name):
@@ -52,6 +58,12 @@ def places_of(graph):
     return [{"op": "edge", **{key: it[key] for key in kept if key in it}} for it in places]
 
 
+def about_of(graph, name, processors):
+    """What a page knows of its graph and its run from the start."""
+    order = graph.get("order", ORDERS[0])
+    return {"processors": processors, "places": places_of(graph), "order": order, "name": name}
+
+
 def filled(kind, values):
     """The page with its values."""
     pieces = part("page.html").split("@")
@@ -61,13 +73,14 @@ def filled(kind, values):
 
 def graph_of(graph, uses_dot=True):
     """The values of a page that are about its graph."""
-    prefix, graph = prefix_of(graph), without_prefix(graph)
-    svg = graph_svg(graph, laid_out(graph, uses_dot))
+    order, prefix, graph = order_words(graph), prefix_of(graph), without_prefix(graph)
+    large = too_large(graph, uses_dot)
+    svg = f"<p>{large} {NOT_DRAWN}</p>" if large else graph_svg(graph, laid_out(graph, uses_dot))
     has_loops = any(it["depth"] for it in graph["vertices"])
     loops = '<span class="key"><i class="loop"></i>a loop</span>' if has_loops else ""
-    asks = "click a vertex or an edge to ask about it"
-    said = f"all names begin with {escape(prefix)}" if prefix else asks
-    return {"graph": svg, "loops": loops, "prefix": said}
+    asks = "" if large else "click a vertex or an edge to ask about it"
+    said = [f"all names begin with {escape(prefix)}" if prefix else asks, *order]
+    return {"graph": svg, "loops": loops, "prefix": "; ".join(filter(None, said))}
 
 
 def verdict_of(text, marks):
@@ -79,7 +92,7 @@ def verdict_of(text, marks):
 
 def live_page(graph, name, processors, verdict="", marks=()):
     """The page of a live session."""
-    about = {"processors": processors, "places": places_of(graph), "name": name}
+    about = about_of(graph, name, processors)
     values = {
         "title": escape(name), "about": escape(json.dumps(about)), "command": "", "last": "0",
         "verdict": verdict_of(verdict, marks),

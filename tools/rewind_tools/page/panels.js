@@ -33,8 +33,8 @@ function formsOf(it) {
   return it.ask ? [made("div", source.finishButton(it.ask, it.line), "form")] : [];
 }
 
-// From three processors on that wait alike, one row for all of them.
-const ALIKE = 3;
+// From three processors on that wait alike, one row for all of them; and from five queues on that hold the same.
+const ALIKE = 3, MANY_QUEUES = 5;
 
 function alikeKey(it) {
   const words = [it.words, it.refused].map((text) => text && text.replaceAll(`processor ${it.p}`, "processor p"));
@@ -139,15 +139,18 @@ function processorRow(numbers) {
   return made("div", [made("b", processorsText(numbers)), ...(parts.length ? parts : [made("span", "nothing", "none")])], "row");
 }
 
-function queueRow(it) {
-  return made("div", [made("b", `${it.from} \u2192 ${it.to}`), ...it.changes.map((text) => made("span", text, "chip"))], "row");
+// Queues from one processor that hold the same have one row, if there are some.
+function queueRows(group) {
+  const [{ from, changes }] = group, row = (to) => made("div", [made("b", `${from} \u2192 ${to}`), ...changes.map((text) => made("span", text, "chip"))], "row");
+  return group.length < MANY_QUEUES ? group.map((it) => row(it.to)) : [row(processorsText(group.map((it) => it.to)))];
 }
 
 function showProcessors() {
   const { picture, before } = state, { processors: all, queues } = picture.state;
   const alike = grouped([...all.keys()], (p) => JSON.stringify([all[p], before && before.state.processors[p]]));
+  const sameQueues = grouped(queues, (it) => JSON.stringify([it.from, it.changes]));
   by("processors").replaceChildren(...heading("What each processor holds", alike.map(processorRow), "nothing"));
-  by("queues").replaceChildren(...heading("Updates on their way, the first to arrive first", queues.map(queueRow), "all queues are empty"));
+  by("queues").replaceChildren(...heading("Updates on their way, the first to arrive first", sameQueues.flatMap(queueRows), "all queues are empty"));
 }
 
 function breakRow(it) {

@@ -65,6 +65,7 @@ function densityAmong(steps, first, last) {
 }
 
 function isAtOrBefore(one, other) {
+  if (about.order === "product") return one.every((it, at) => it <= other[at]);
   return one[0] <= other[0] && compareTimes(one.slice(1), other.slice(1)) <= 0;
 }
 

@@ -24,7 +24,7 @@ function xOfAll(position) {
 }
 
 function laneHeight() {
-  return about.processors <= 2 ? 44 : about.processors <= 4 ? 34 : about.processors <= 8 ? 24 : 15;
+  return [[2, 44], [4, 34], [8, 24], [16, 15], [64, 11]].find(([most]) => about.processors <= most)[1];
 }
 
 function y(lane) {
@@ -68,7 +68,7 @@ function densityParts(density, bottom, high) {
 
 function showStrip() {
   const { picture: { at, kept, marks }, steps: { first, last }, over } = state, names = laneNames(), end = LEFT + plot;
-  const high = names.length > 9 ? 4 : names.length > 5 ? 6 : 9, tall = names.length * high + 4, begin = xOfAll(first - 1);
+  const high = names.length > 18 ? 2 : names.length > 9 ? 4 : names.length > 5 ? 6 : 9, tall = names.length * high + 4, begin = xOfAll(first - 1);
   by("strip").replaceChildren(drawn("svg", { width: end + RIGHT, height: tall, role: "img", "aria-label": `all ${kept} steps` }, [
     drawn("text", { class: "lane-name", x: 2, y: tall / 2 + 4 }, "all steps"),
     ...names.flatMap((_, lane) => bandParts(lane, 2 + lane * high, high - 1, xOfAll, LEFT, end)),

@@ -1,6 +1,9 @@
-// Which point is asked about, and why it is not finished.
-import { by, field, input, made, redrawn, select, timeOf, timeText } from "./base.js";
+// Which point is asked about, and why it is not finished. Of many places one is also found by a part of its name.
+import { by, field, input, labelled, made, redrawn, select, timeOf, timeText } from "./base.js";
 import { about, placeNumber, processors, question, say, set, source, state, view } from "./store.js";
+
+// From how many places on one is also found by its name, and how many names are offered.
+const MANY_PLACES = 64, MOST_OFFERED = 50;
 
 // Asks about the point that is chosen.
 export async function askWhy() {
@@ -52,6 +55,24 @@ controls.time.addEventListener("change", () => {
 });
 controls.before.addEventListener("change", () => choose({ before: controls.before.checked }));
 by("why-form").append(controls.q, field("at", controls.at), field("time", controls.time), field("strictly before it", controls.before));
+
+// The places whose name has what is typed, the first of them.
+const offered = made("datalist");
+offered.id = "found-places";
+const searched = labelled(input(16, { placeholder: "a part of its name" }), "find a vertex or an edge by its name");
+searched.setAttribute("list", offered.id);
+searched.addEventListener("input", () => {
+  const text = searched.value.toLowerCase(), its = about.places.filter((it) => it.name.toLowerCase().includes(text));
+  offered.replaceChildren(...its.slice(0, MOST_OFFERED).map((it) => Object.assign(made("option"), { value: it.name })));
+});
+searched.addEventListener("change", () => {
+  const exact = about.places.findIndex((it) => it.name === searched.value), text = searched.value.toLowerCase();
+  const place = exact >= 0 ? exact : about.places.findIndex((it) => it.name.toLowerCase().includes(text));
+  if (place < 0) return say(`no vertex or edge has "${searched.value}" in its name`, true);
+  searched.value = "";
+  return choosePlace(place);
+});
+if (about.places.length > MANY_PLACES) by("why-form").append(field("find", searched), offered);
 
 function showForm() {
   const { q, place, time, before } = state.chosen;

@@ -18,6 +18,8 @@ LETTER, MOST_COUNT, MOST_AT = 7.3, "9 requests", "12 at (0,12)"
 WIDEST, SLACK = 900, 1.2
 RIM = 20  # the room around the graph
 LEAST_PREFIX = 4  # the shortest prefix of all names that is shown once
+# The most vertices and edges that are drawn: by graphviz, and by layers.
+MOST_BY_DOT, MOST_BY_LAYERS = 1024, 256
 # The tip of an arrow.
 TIP = (
     '<defs><marker id="tip" viewBox="0 0 8 8" refX="7" refY="4" markerUnits="userSpaceOnUse" orient="auto"'
@@ -61,6 +63,16 @@ def sizes_of(graph):
     boxes = {it["name"]: (widest(it["name"], kind_of(it), MOST_COUNT) + 14, 58) for it in graph["vertices"]}
     labels = {it["name"]: (widest(it["name"] + port_of(it), MOST_AT) + 4, 38) for it in graph["edges"]}
     return boxes, labels
+
+
+def too_large(graph, uses_dot=True):
+    """Why a graph is not drawn, in words; None if it is."""
+    count, has_dot = len(graph["vertices"]) + len(graph["edges"]), uses_dot and shutil.which("dot")
+    most = MOST_BY_DOT if has_dot else MOST_BY_LAYERS
+    if count <= most:
+        return None
+    more = "" if has_dot or count > MOST_BY_DOT else f" (with graphviz {MOST_BY_DOT:,})"
+    return f"The graph has {count:,} vertices and edges, and at most {most:,} are drawn{more}."
 
 
 def laid_out(graph, uses_dot=True):

@@ -8,7 +8,7 @@ from html import escape
 
 from rewind_tools import sources
 from rewind_tools.live.pictures import LAST_COUNTER, Pictures
-from rewind_tools.page import filled, graph_of, inlined, part, places_of, verdict_of
+from rewind_tools.page import about_of, filled, graph_of, inlined, part, verdict_of
 from rewind_tools.runs import run_script, without_clients
 from rewind_tools.script import COMMANDS, STEPS
 from rewind_tools.session import Ended, Session
@@ -310,7 +310,7 @@ def page_of(
     count = start.get("processors", 0)
     none = {"graph": "<p>The program has read no graph.</p>", "loops": "", "prefix": ""}
     drawn = graph_of(graph, uses_dot) if has_form else none
-    about = {"processors": count, "places": places_of(graph), "name": name}
+    about = about_of(graph, name, count)
     run = recorded(told, script, words, report, marks, places or {})
     first = next((it for it, at in enumerate(run["ats"]) if at is not None), 0)
     about["opens"] = len(run["ats"]) - 1 if verdict or is_at_end else first

@@ -143,16 +143,21 @@ def no_port(teller, value, reply, before):
     return f"{value['vertex']} has {has}, and the send names port {value['port']}"
 
 
+def by_order(teller):
+    """What the order of a graph says of a later time, if it is not that of most graphs."""
+    is_product = teller.graph.value.get("order") == "product"
+    return "; the order of times is product, so no number may be less" if is_product else ""
+
+
 def too_early(teller, value, reply, before):
-    return (
-        f"{time_in(value['at'])} is not at or after {time_in(value['time'])}, the time of the capability"
-    )
+    start = f"{time_in(value['at'])} is not at or after {time_in(value['time'])}"
+    return f"{start}, the time of the capability{by_order(teller)}"
 
 
 def not_later(teller, value, reply, before):
     """A capability or a token that would not move to a later time."""
     if value["do"] == "release":
-        return f"{time_in(value['to'])} is not strictly after {time_in(value['time'])}"
+        return f"{time_in(value['to'])} is not strictly after {time_in(value['time'])}{by_order(teller)}"
     to = value["next"]["to"]
     if before is None:
         return f"epoch {to} is not above the token's"

@@ -165,6 +165,8 @@ def atom(name, it):
         return f"processor {it['q']}'s view has {least} at {there}"
     if name == "count":
         return f"{least} of records, requests and tokens at {there}"
+    if name == "held":
+        return f"processor {it['p']} has {least} of records, requests and tokens at {there}"
     if name == "queue":
         return f"{least} of changes on their way from processor {it['from']} to {it['to']}"
     return f"{it['vertex']} has counted the value {it['value']} at least {counted(it['at_least'], 'time')}"
@@ -232,15 +234,21 @@ def edge_words(it):
     return f"{it['name']} from {it['from']}{port} to {it['to']} ({it['route']})"
 
 
+def order_words(graph):
+    """How a graph's times compare, if it says so."""
+    how = "each loop counter by itself" if graph.get("order") == "product" else "the outer loop's counter first"
+    return [f"order of times: {graph['order']}, {how}"] if "order" in graph else []
+
+
 def graph_words(graph):
-    """What a graph has, a sentence each for its operators by ports, its vertices and its edges."""
+    """What a graph has, a sentence each for its operators by ports, its vertices, its edges and its order."""
     operators = operators_of(graph)
     by_ports, within = ports_of(operators), {it["name"] for one in operators.values() for it in one.edges}
     vertices = [vertex_words(it) for it in graph["vertices"] if it["name"] not in by_ports]
     edges = [edge_words(it) for it in graph["edges"] if it["name"] not in within]
     said = [f"operators by ports: {'; '.join(map(str, operators.values()))}"] if operators else []
     said += [] if operators and not vertices else [f"vertices: {', '.join(vertices) or 'none'}"]
-    return [*said, f"edges: {', '.join(edges) or 'none'}"]
+    return [*said, f"edges: {', '.join(edges) or 'none'}", *order_words(graph)]
 
 
 def command_words(value):

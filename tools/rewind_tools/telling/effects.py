@@ -1,7 +1,9 @@
 """What a step changed, in words: each entry of the reply to the query 'effect'."""
-from rewind_tools.telling.commands import at, counted, time_in
+from rewind_tools.telling.commands import at, counted, processors, time_in
 
 NO_HOLDS = frozenset()
+# From how many queues on those that change alike are told at once.
+ALIKE = 5
 
 
 def turned(old, new):
@@ -50,6 +52,17 @@ def queue(it):
     )
 
 
+def queues(changed):
+    """A sentence for each queue, or for several from one processor that change alike."""
+    groups = {}
+    for it in changed:
+        groups.setdefault((it[0], *it[2:]), []).append(it)
+    for (sender, old, new), group in groups.items():
+        word, to = "longer" if new > old else "shorter", processors([it[1] for it in group])
+        all_alike = f"the queues from processor {sender} to {to} get {word}: {counted(old, 'change')}, then {new}"
+        yield from map(queue, group) if len(group) < ALIKE else [all_alike]
+
+
 KINDS = {
     "tokens": token,
     "records": lambda it: (
@@ -72,5 +85,6 @@ def effect_words(changed, holds=NO_HOLDS, distincts=NO_HOLDS):
         "requests": lambda it: capability(it) if it[1] in holds else request(it),
         "items": lambda it: item(it, distincts),
     }
-    said = [words(it) for kind, words in kinds.items() for it in changed[kind]]
-    return said or ["nothing"]
+    said = {kind: [words(it) for it in changed[kind]] for kind, words in kinds.items()}
+    said["queues"] = list(queues(changed["queues"]))
+    return [it for its in said.values() for it in its] or ["nothing"]

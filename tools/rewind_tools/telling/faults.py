@@ -1,12 +1,12 @@
 """A line and its answer in words, where the line may be faulty: what was wrong with it, and what would be
 right."""
 from rewind_tools.runs import lines_of, opening_of
+from rewind_tools.script import LONGEST, longest_graph
 from rewind_tools.telling import forms, graph_faults, names, texts, values
 from rewind_tools.telling.answers import Teller
 from rewind_tools.telling.commands import command_words, counted, graph_words, unread
 from rewind_tools.telling.values import shown
 
-LONGEST = 65536
 
 
 def teller_of(told, script):
@@ -74,7 +74,8 @@ def line_faults(text, reply, teller):
     """What is wrong with a line that got this reply, each fault in words."""
     name = reply["error"]
     if name == "LineTooLong":
-        return [f"the line has {len(text)} bytes; at most {LONGEST} are allowed"]
+        most = longest_graph(teller.version) if teller.graph is None else LONGEST
+        return [f"the line has {len(text)} bytes; at most {most} are allowed"]
     if name == "BadLine":
         return first_line_faults(text, teller) + text_faults(text, teller)
     return faults_in(text, lambda value: FAULTS[name](value, teller)) if name in FAULTS else []

@@ -5,8 +5,8 @@ two."""
 import difflib
 
 from rewind_tools import script
-from rewind_tools.script import ATOMS_SINCE, LAST, LITERALS_SINCE, MOST_LITERALS, MOST_ONLY, NEEDED_BY
-from rewind_tools.script import NEXT_TO_SINCE, NEXTS, OPTIONAL, SINCE, USERS, atoms_of, form_of, words_of
+from rewind_tools.script import ATOMS_SINCE, LAST, LITERALS_SINCE, MOST_LITERALS, NEEDED_BY, NEXT_TO_SINCE
+from rewind_tools.script import NEXTS, OPTIONAL, SINCE, USERS, atoms_of, form_of, most_only, words_of
 from rewind_tools.telling import habits, values
 from rewind_tools.telling.values import is_only, shown
 
@@ -19,7 +19,9 @@ POINT = ('a location and a time, as ["a",[0]]', values.point)
 POINTS = ('a list of locations and times, as [["a",[0]]]', values.list_of(values.point))
 VALUES = ("a list of integers of 64 bits, with their sign", values.list_of(SIGNED[1]))
 NEXT, NEXT_OR_TO = values.one_of_before_to(NEXT_TO_SINCE, *NEXTS), values.one_of_or_to(*NEXTS)
-PROCESSORS = (f"a list of 1 to {MOST_ONLY} processors' numbers", values.processors(MOST_ONLY))
+PROCESSORS, MORE_PROCESSORS = (
+    (f"a list of 1 to {most} processors' numbers", values.processors(most)) for most in map(most_only, (1, LAST))
+)
 WHEN = ("a condition", lambda value: None)
 FLAG = ("true or false", values.flag)
 USERS_LISTED = values.some_of(*USERS)
@@ -31,7 +33,7 @@ SAMPLES = {
     id(SMALL): "0", id(WHOLE): "0", id(SIGNED): "5", id(VERTEX): '"a"', id(EDGE): '"am"', id(PLACE): '"a"',
     id(TIME): "[0]",
     id(POINT): '["a",[0]]', id(POINTS): '[["a",[0]]]', id(VALUES): "[5]", id(NEXT): '"next"',
-    id(NEXT_OR_TO): '"next"', id(PROCESSORS): "[0]",
+    id(NEXT_OR_TO): '"next"', id(PROCESSORS): "[0]", id(MORE_PROCESSORS): "[0]",
     id(WHEN): '{"passed":{"q":0,"at":"a","time":[0]}}', id(FLAG): "true", id(USERS_LISTED): '["feed"]',
 }  # fmt: skip
 # The same under a key for which the sample of its kind says little.
@@ -179,8 +181,9 @@ def wrong_atom(value, version, where):
     further = [*SEVERAL, "not"] if where == '"when"' else ["not"] if where.startswith("item") else []
     keys = [*atoms_of(version), *(further if version >= LITERALS_SINCE else [])]
     only = next(iter(value)) if len(value) == 1 else None
-    if only in (*ATOMS_SINCE, *SEVERAL, "not") and version < LITERALS_SINCE:
-        came = f"which came with version {LITERALS_SINCE}, and the script is of version {version}"
+    since = LITERALS_SINCE if only in (*SEVERAL, "not") else ATOMS_SINCE.get(only, 1)
+    if version < since:
+        came = f"which came with version {since}, and the script is of version {version}"
         return f"has the key {shown(only)}, {came}"
     near = nearest(only, keys) if only is not None else None
     hint = f"; the nearest is {shown(near)}" if near else ""
@@ -220,6 +223,8 @@ def known_atom_shown(value, version):
 
 def kind_in(kind, version):
     """What is said of a kind in a script of a version."""
+    if kind is PROCESSORS and most_only(version) == most_only(LAST):
+        return MORE_PROCESSORS
     return NEXT_OR_TO if kind is NEXT and version >= NEXT_TO_SINCE else kind
 
 

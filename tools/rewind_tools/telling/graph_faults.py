@@ -1,6 +1,7 @@
 """What is wrong with a graph that the program has refused, by the number of its answer: where in the line,
 and what is right."""
-from rewind_tools.script import LAST, MOST_PORTS, OPS, OPS_SINCE, OPTIONAL_OF_OPS, ops_of
+from rewind_tools.script import LAST, MOST_PORTS, OPS, OPS_SINCE, OPTIONAL_OF_OPS, ORDERS, ORDER_SINCE
+from rewind_tools.script import most_locations, most_processors, name_limits, ops_of
 from rewind_tools.telling import habits, values
 from rewind_tools.telling.forms import came_with, keys_faults, listed, nearest, value_faults
 from rewind_tools.telling.commands import ports_words
@@ -10,32 +11,39 @@ from rewind_tools.telling.values import shown
 BEYOND = {"ingress": 1, "egress": -1}
 
 
-def name_fault(value):
+def name_fault(value, version=LAST):
+    """What is wrong with a name in a script of a version, None if nothing is."""
     if values.text(value):
         return values.text(value)
-    if not 1 <= len(value.encode()) <= 32:
+    most, first = name_limits(version)
+    if not 1 <= len(value.encode()) <= most:
         return f"has {len(value.encode())} bytes"
-    odd = next((it for it in value if not "!" <= it <= "~"), None)
+    odd = next((it for it in value if not first <= it <= "~"), None)
     return f"has {shown(odd)} in it" if odd else None
 
 
-NAME = ("a text of 1 to 32 bytes, each from ! to ~", name_fault)
+def name_words(version=LAST):
+    """What a name is in a script of a version."""
+    most, first = name_limits(version)
+    return f"1 to {most} bytes, each " + ("from ! to ~" if first == "!" else "a space or from ! to ~")
+
+
+def name_kind(version):
+    return f"a text of {name_words(version)}", lambda it: name_fault(it, version)
+
+
 REFERRED = ("the name of a vertex, a text", values.text)
 ROUTE = values.one_of("local", "exchange")
-EDGE = {"name": NAME, "from": REFERRED, "port": SMALL, "to": REFERRED, "route": ROUTE}
+EDGE = {"from": REFERRED, "port": SMALL, "to": REFERRED, "route": ROUTE}
 ANY_LIST = values.list_of(lambda it: None)
 KINDS_OF_OPS = {"signed": SIGNED, "ports": values.number((0, MOST_PORTS)), "flag": FLAG}
 GRAPH = {"vertices": ("a list of vertices", ANY_LIST), "edges": ("a list of edges", ANY_LIST)}
+ORDER = values.one_of(*ORDERS)
 
 
 def deepest(version):
     """The greatest depth in a script of a version."""
     return 4 if version == 1 else 6
-
-
-def most_locations(version):
-    """How many vertices and edges a graph may have in a script of a version."""
-    return 64 if version < 6 else 256
 
 
 def graph_first(version):
@@ -76,7 +84,7 @@ def shape_faults(graph, version):
             f'a version line is {{"version":N}} alone, N from 2 to {LAST}, as the first line, and the graph'
             " is the next"
         ]
-    faults = keys_faults(graph, GRAPH) + value_faults(graph, GRAPH)
+    faults = order_faults(graph, version)
     if faults:
         return faults
     for key in GRAPH:
@@ -87,10 +95,19 @@ def shape_faults(graph, version):
     return []
 
 
+def order_faults(graph, version):
+    """What is wrong with the keys of a graph and their values; the order came later than the others."""
+    is_late = "order" in graph and version < ORDER_SINCE
+    form = GRAPH | ({"order": ORDER} if "order" in graph and not is_late else {})
+    came = [came_with('the key "order"', ORDER_SINCE, version)] if is_late else []
+    own = {key: it for key, it in graph.items() if key != "order" or not is_late}
+    return keys_faults(own, form) + value_faults(own, form) + came
+
+
 def part_faults(value, is_vertex, version):
     if not isinstance(value, dict):
         return [f"it {values.kind_of(value)}, and must be an object"]
-    form = form_of_vertex(value, version) if is_vertex else EDGE
+    form = form_of_vertex(value, version) if is_vertex else {"name": name_kind(version), **EDGE}
     return (
         keys_faults(value, form)
         + value_faults(value, form)
@@ -111,7 +128,7 @@ def op_hint(op, version):
 def form_of_vertex(value, version):
     """The form of a vertex of this op; if the op is none, the keys may be there that some op has."""
     op = value.get("op")
-    form = {"name": NAME, "op": values.one_of(*ops_of(version)), "depth": SMALL}
+    form = {"name": name_kind(version), "op": values.one_of(*ops_of(version)), "depth": SMALL}
     is_known = isinstance(op, str) and op in OPS
     keys = OPS[op] if is_known else {key: kind for of in OPS.values() for key, kind in of.items()}
     is_needed = {key: is_known and key not in OPTIONAL_OF_OPS for key in keys}
@@ -221,9 +238,10 @@ def graph_faults(value, reply, version=1):
     if reply["code"] == 45:
         return too_large(value, version)
     if reply["code"] == 48:
+        most, later = most_processors(version), most_processors(LAST)
         return [
-            'a script of version 1 has at most 8 processors; with the first line {"version":2} there may'
-            " be 16"
+            f"a script of version {version} has at most {most} processors; with the first line"
+            f' {{"version":{LAST}}} there may be {later}'
         ]
     if "location" in reply:
         place = shown(reply["location"])
