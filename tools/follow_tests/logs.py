@@ -111,6 +111,7 @@ BOTH = [
 ]  # fmt: skip
 M_KEEPS = [[0, 0, [0, 0, 0], -1], [1, 0, [0, 0, 0], -1], [1, 0, [0, 0, 4], 1]]
 KEEPS = sent(0, 1, [], M_KEEPS, scope=[2, 1])
+KEEPS_TWO = sent(0, 1, [], [*M_KEEPS, [1, 0, [0, 1, 0], 1]], scope=[2, 1])
 
 # One worker that sends a message at epoch 0 through m to z, and ends.
 DROPS = [[M, 0, [0], -1]]
@@ -224,7 +225,10 @@ FOLLOWED = {
 # The logs, and what is said.
 HANGS = {
     "a capability in a loop in a loop": (logs_of(1, [KEEPS, *BOTH[1:3]], NESTED),
-        ["worker 0 holds a capability of m 2.1.1 out 0 (0,0,4)", "in timely by components: there less may"]),
+        ["worker 0 holds a capability of m 2.1.1 out 0 (0,0,4)"]),
+    # neither is at or before the other, as in timely
+    "two capabilities in a loop in a loop": (logs_of(1, [KEEPS_TWO, *BOTH[1:3]], NESTED),
+        ["worker 0 holds a capability of m 2.1.1 out 0 (0,0,4)", "a capability of m 2.1.1 out 0 (0,1,0)"]),
     "a capability in a loop": (
         logs_of(1, [*IN_LOOP[:3], inside(0, 3, [[1, 1, [0, 1], -1]], [[1, 1, [0, 1], 1]])], LOOP),
         ["z 3 in 0 (0) does not finish", "worker 0 holds a capability of body 2.1 out 1 (0,1)",

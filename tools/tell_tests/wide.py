@@ -1,5 +1,6 @@
-"""What tools/test_tell tells of scripts of version 9: the order of a graph's times, what one processor holds,
-64 processors, 4,096 locations, and names with spaces. Scripts as in cases.py, and graphs that are refused."""
+"""What tools/test_tell tells of scripts of version 9: the order of a graph's times, what one processor
+holds, 64 processors, 4,096 locations, and names with spaces. Scripts as in cases.py, and graphs that are
+refused."""
 import json
 
 from rewind_tools.testing import LINE, graph_line
@@ -8,7 +9,9 @@ from tell_tests.cases import A, V8, Z, do, edge, graph, typed, vertex
 V9 = '{"version":9}'
 TWICE = "a(input) --[ai]--> i(ingress) --[ij]--> j(ingress) --[jx]--> x(opaque ports=1) --[xe]--> e(egress)"
 PRODUCT, ORDERED = graph_line("order=product", TWICE), graph_line("order=lexicographic", TWICE)
-ENTERS = typed("feed 0 a 1 close; take 0 ai 0 1; take 0 ij 0,0 1; take 0 jx 0,0,0 1; release 0 x 0,0,0 to 0,1,5")
+ENTERS = typed(
+    "feed 0 a 1 close; take 0 ai 0 1; take 0 ij 0,0 1; take 0 jx 0,0,0 1; release 0 x 0,0,0 to 0,1,5"
+)
 LATER = typed("send 0 x 0,1,5 0 1 at 0,2,0; release 0 x 0,1,5 to 0,2,0; release 0 x 0,1,5 to 0,2,5")
 NO_LESS = "the order of times is product, so no number may be less"
 HELD = {"held": {"at": "a", "at_least": 1, "p": 1, "time": [0]}}
@@ -26,7 +29,8 @@ def many(count):
 WIDE_TOLD = {
     "product order": ([], [V9, PRODUCT, *ENTERS, *LATER, *typed("frontier 0 xe")], 0, [
         (2, "order of times: product, each loop counter by itself"),
-        (8, f"refused: (0,2,0) is not at or after (0,1,5), the time of the capability; {NO_LESS} (56 TooEarly)"),
+        (8, f"refused: (0,2,0) is not at or after (0,1,5), the time of the capability; {NO_LESS}"),
+        (8, "(56 TooEarly)"),
         (9, f"refused: (0,2,0) is not strictly after (0,1,5); {NO_LESS} (54 NotLater)"),
         (10, "done: the cursor is at 6 of 6 kept steps"),
     ]),
@@ -39,16 +43,18 @@ WIDE_TOLD = {
         (8, "refused: (0,1,4) is not at or after (0,1,5), the time of the capability (56 TooEarly)"),
     ], [(2, "order of times")]),
     "an order in version 8": ([], [V8, PRODUCT], 2, [
-        (2, 'faulty: the key "order" came with version 9, and the script is of version 8; its first line must'
-            ' be {"version":9} (40 Shape)'),
+        (2, 'faulty: the key "order" came with version 9, and the script is of version 8; its first line'
+            ' must be {"version":9} (40 Shape)'),
     ]),
     "what one processor holds": (["--processors", "2"], [
         V9, LINE, *typed("feed 0 a close; feed 1 a next; turns held 1 a 0 1 0 2; break held 1 a 0 1"),
-        do("break", when={"held": {**HELD["held"], "p": 2}}), do("break", when={"held": {"p": 0, "at": "a"}}),
+        do("break", when={"held": {**HELD["held"], "p": 2}}),
+        do("break", when={"held": {"p": 0, "at": "a"}}),
     ], 0, [
         (5, "does it begin or cease to hold that processor 1 has at least 1 of records, requests and tokens "
             "at a (0)?"),
-        (5, "at position 0 it holds it ceases to hold at 2"), (6, "set a breakpoint: processor 1 has at least"),
+        (5, "at position 0 it holds it ceases to hold at 2"),
+        (6, "set a breakpoint: processor 1 has at least"),
         (7, "warning: this breakpoint never triggers: there is no processor 2"),
         (8, 'the key "at_least" of "held" is missing'), (8, 'the key "time" of "held" is missing'),
     ]),
@@ -65,8 +71,8 @@ WIDE_TOLD = {
         (8, "has 65 items; expected a list of 1 to 64 processors' numbers"),
     ]),
     "64 processors in version 8": (["--processors", "64"], [V8, LINE], 2, [
-        (2, 'faulty: a script of version 8 has at most 16 processors; with the first line {"version":9} there '
-            "may be 64 (48 BadCount)"),
+        (2, 'faulty: a script of version 8 has at most 16 processors; with the first line {"version":9}'
+            " there may be 64 (48 BadCount)"),
     ]),
     "17 in a list in version 8": ([], [V8, LINE, do("run", limit=1, only=[0] * 17)], 0, [
         (3, "has 17 items; expected a list of 1 to 16 processors' numbers"),
@@ -78,8 +84,11 @@ WIDE_TOLD = {
     "257 locations in version 8": ([], [V8, many(257)], 2, [
         (2, "faulty: there are 257 vertices and edges; the limit is 256; in version 9 at most 4096"),
     ]),
-    "a name with a space": ([], [V9, named(SPACED), do("feed", p=0, vertex=SPACED, values=[], next="stay")], 0, [
-        (2, f"vertices: {SPACED} (input), z (sink)"), (3, f"processor 0 feeds nothing into {SPACED} and stays"),
+    "a name with a space": ([], [
+        V9, named(SPACED), do("feed", p=0, vertex=SPACED, values=[], next="stay"),
+    ], 0, [
+        (2, f"vertices: {SPACED} (input), z (sink)"),
+        (3, f"processor 0 feeds nothing into {SPACED} and stays"),
     ]),
     "a name with a space in version 8": ([], [V8, named(SPACED)], 2, [
         (2, 'has " " in it; expected a text of 1 to 32 bytes, each from ! to ~ (40 Shape)'),
@@ -95,7 +104,8 @@ WIDE_TOLD = {
 WIDE_GRAPH_FAULTS = {
     "another order": ({**graph([A], []), "order": "by product"}, 40,
         '"order":"by product" is none of these; expected "lexicographic" or "product"'),
-    "an order that is no text": ({**graph([A], []), "order": None}, 40, '"order":null is not a number, text'),
+    "an order that is no text": ({**graph([A], []), "order": None}, 40,
+        '"order":null is not a number, text'),
     "a longer name": (graph([vertex("n" * 129, "input")], []), 40,
         "has 129 bytes; expected a text of 1 to 128 bytes, each a space or from ! to ~"),
     "a name with a tab": (graph([vertex("a\tb", "input")], []), 40, 'has "\\t" in it'),

@@ -236,12 +236,14 @@ def edge_words(it):
 
 def order_words(graph):
     """How a graph's times compare, if it says so."""
-    how = "each loop counter by itself" if graph.get("order") == "product" else "the outer loop's counter first"
+    by_product, others = "each loop counter by itself", "the outer loop's counter first"
+    how = by_product if graph.get("order") == "product" else others
     return [f"order of times: {graph['order']}, {how}"] if "order" in graph else []
 
 
 def graph_words(graph):
-    """What a graph has, a sentence each for its operators by ports, its vertices, its edges and its order."""
+    """What a graph has, a sentence each for its operators by ports, its vertices, its edges and the order of
+    its times."""
     operators = operators_of(graph)
     by_ports, within = ports_of(operators), {it["name"] for one in operators.values() for it in one.edges}
     vertices = [vertex_words(it) for it in graph["vertices"] if it["name"] not in by_ports]

@@ -58,9 +58,11 @@ def queues(changed):
     for it in changed:
         groups.setdefault((it[0], *it[2:]), []).append(it)
     for (sender, old, new), group in groups.items():
+        if len(group) < ALIKE:
+            yield from map(queue, group)
+            continue
         word, to = "longer" if new > old else "shorter", processors([it[1] for it in group])
-        all_alike = f"the queues from processor {sender} to {to} get {word}: {counted(old, 'change')}, then {new}"
-        yield from map(queue, group) if len(group) < ALIKE else [all_alike]
+        yield f"the queues from processor {sender} to {to} get {word}: {counted(old, 'change')}, then {new}"
 
 
 KINDS = {

@@ -8,7 +8,6 @@ from rewind_tools.telling.commands import command_words, counted, graph_words, u
 from rewind_tools.telling.values import shown
 
 
-
 def teller_of(told, script):
     """The one who tells a run's replies; it has no graph if the program has read none.
 

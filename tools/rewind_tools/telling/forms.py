@@ -20,7 +20,8 @@ POINTS = ('a list of locations and times, as [["a",[0]]]', values.list_of(values
 VALUES = ("a list of integers of 64 bits, with their sign", values.list_of(SIGNED[1]))
 NEXT, NEXT_OR_TO = values.one_of_before_to(NEXT_TO_SINCE, *NEXTS), values.one_of_or_to(*NEXTS)
 PROCESSORS, MORE_PROCESSORS = (
-    (f"a list of 1 to {most} processors' numbers", values.processors(most)) for most in map(most_only, (1, LAST))
+    (f"a list of 1 to {most} processors' numbers", values.processors(most))
+    for most in map(most_only, (1, LAST))
 )
 WHEN = ("a condition", lambda value: None)
 FLAG = ("true or false", values.flag)

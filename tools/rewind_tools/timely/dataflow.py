@@ -9,20 +9,21 @@ Each port is an opaque vertex, an output with a capability at the start. A local
 each output that the summary connects, through a feedback vertex for each round by which it delays; and a
 channel is an exchange edge. By the names of its vertices the tools show an operator as one (ports.py).
 
+Times in loops within loops compare by components, as in timely: the order of the graph is product.
+
 A scope is an operator of the scope around it. A message enters at an input of that: an ingress vertex, or in
 a region, whose times have no counter of their own, an opaque one. From there a local edge leads to an opaque
 vertex within, which the channels leave that the log has from node 0. A message leaves over an egress and an
 opaque vertex, the scope's output, in the same way."""
 import json
-import re
 from typing import NamedTuple
 
 from rewind_tools.following.epochs import is_whole
 from rewind_tools.timely.logs import Unreadable, Unsupported
 
 MOST_PORTS = 16
-# How much of an operator's name is taken over, and by how many rounds a summary may delay.
-LONGEST, MOST_DELAY = 14, 16
+# By how many rounds a summary may delay.
+MOST_DELAY = 16
 # The node that stands for the border of a scope, in its channels and batches; and the ports there: outside
 # an input, and within what comes from it; within what leaves, and outside an output.
 BORDER = 0
@@ -38,7 +39,7 @@ class Port:
         self.operator, self.number, self.is_output, self.depth = operator, number, is_output, depth
         self.op, self.side, self.across, self.edges = op, side, None, []
         kind = side or ("out" if is_output else "in")
-        self.vertex = f"{short(operator)}.{kind}{number}"
+        self.vertex = f"{name_of(operator)}.{kind}{number}"
         self.words = f"{operator.name} {operator.address} {kind} {number}"
 
     def count(self):
@@ -52,9 +53,9 @@ class Port:
         return its | ({"starts": True} if self.is_output and not self.side else {})
 
 
-def short(operator):
-    """An operator's name in the graph, whose names have at most 32 bytes."""
-    return re.sub(r"\W", "_", operator.name, flags=re.ASCII)[:LONGEST] + f"-{operator.address}"
+def name_of(operator):
+    """An operator's name in the graph."""
+    return f"{operator.name}-{operator.address}"
 
 
 class Hop(NamedTuple):
@@ -164,7 +165,7 @@ class Dataflow:
     def cross(self, source, target):
         """Adds the edge over a border."""
         source.across, target.across = target, source
-        edge = f"{short(source.operator)}.{source.side[0]}{source.number}"
+        edge = f"{name_of(source.operator)}.{source.side[0]}{source.number}"
         source.edges.append(Hop(edge, source, 0, target))
         self.borders += [source, target]
 
@@ -175,7 +176,7 @@ class Dataflow:
                 continue
             for source, target, delay in sorted(set(it.summary)):
                 inside = self.ports["in", scope, it.node, source], self.ports["out", scope, it.node, target]
-                edge = f"{short(it)}.{source}-{target}"
+                edge = f"{name_of(it)}.{source}-{target}"
                 rounds = tuple((f"{edge}*{it + 1}", f"{edge}+{it + 1}") for it in range(delay))
                 hop = Hop(edge, inside[0], target, inside[1], rounds)
                 inside[0].edges.append(hop)
@@ -249,7 +250,9 @@ class Dataflow:
                     start, name, out = vertex, after, 0
                 last = {"name": name, "from": start, "port": out, "to": hop.target.vertex, "route": route}
                 edges.append(last)
-        return {"vertices": vertices, "edges": edges}
+        # with one counter both orders are the same, and programs before version 9 have one
+        order = {"order": "product"} if any(it["depth"] > 1 for it in vertices) else {}
+        return {"vertices": vertices, "edges": edges, **order}
 
 
 def across(port, time):

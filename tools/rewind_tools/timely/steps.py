@@ -8,6 +8,7 @@
 
 A Step is a Line of a trace whose number is its batch's line; `entry` is the point that it is for. Every
 message has the value 0."""
+import json
 from typing import NamedTuple
 
 from rewind_tools.following.reading import NOTHING, NOTHING_OWN, Line, Own
@@ -47,6 +48,14 @@ class Times(dict):
         return found
 
 
+class Quoted(dict):
+    """By a name its JSON text."""
+
+    def __missing__(self, name):
+        self[name] = found = json.dumps(name).encode()
+        return found
+
+
 class Numbers(dict):
     """By a number what the own keys of a line say that has no other."""
 
@@ -59,7 +68,7 @@ class Steps:
     """Makes Steps, which share what is equal, since there may be a million."""
 
     def __init__(self, epochs):
-        self.times, self.texts, self.owns = Times(epochs), {}, Numbers()
+        self.times, self.texts, self.owns, self.quoted = Times(epochs), {}, Numbers(), Quoted()
 
     def record(self, hop, to, time):
         """A message on a channel, as a follower knows it."""
@@ -67,8 +76,8 @@ class Steps:
 
     def takes(self, pending, record, time, entry, count=1):
         """Steps that take messages which are one record."""
-        text = b'{"do":"take","p":%d,"edge":"%s","time":[%s],"value":0}'
-        text %= pending.worker.index, record[0].encode(), self.times[time].text
+        text = b'{"do":"take","p":%d,"edge":%s,"time":[%s],"value":0}'
+        text %= pending.worker.index, self.quoted[record[0]], self.times[time].text
         return [Step(pending.worker, pending.batch, "take", text, entry, record)] * count
 
     def hop(self, pending, hop, since, time):
@@ -91,23 +100,23 @@ class Steps:
         return made + self.takes(pending, record, later, None, count)
 
     def send(self, pending, hop, since, time, record, count=1, entry=None):
-        text = b'{"do":"send","p":%d,"vertex":"%s","time":[%s],"port":%d,"values":[%s],"at":[%s],"dest":%d}'
+        text = b'{"do":"send","p":%d,"vertex":%s,"time":[%s],"port":%d,"values":[%s],"at":[%s],"dest":%d}'
         start, values = self.times[since].text, b"0" + b",0" * (count - 1)
-        its = pending.worker.index, hop.source.vertex.encode(), start, hop.port, values
+        its = pending.worker.index, self.quoted[hop.source.vertex], start, hop.port, values
         text %= *its, self.times[time].text, record[1]
         makes = (record,) * count
         return Step(pending.worker, pending.batch, "send", text, entry, None, makes)
 
     def release(self, pending, port, time, entry=None):
-        text = b'{"do":"release","p":%d,"vertex":"%s","time":[%s]}'
-        text %= pending.worker.index, port.vertex.encode(), self.times[time].text
+        text = b'{"do":"release","p":%d,"vertex":%s,"time":[%s]}'
+        text %= pending.worker.index, self.quoted[port.vertex], self.times[time].text
         return Step(pending.worker, pending.batch, "release", text, entry)
 
     def keep(self, pending, port, since, time, entry):
         """A later capability beside one that is held."""
-        text = b'{"do":"release","p":%d,"vertex":"%s","time":[%s],"to":[%s],"keep":true}'
+        text = b'{"do":"release","p":%d,"vertex":%s,"time":[%s],"to":[%s],"keep":true}'
         times = self.times[since].text, self.times[time].text
-        text %= pending.worker.index, port.vertex.encode(), *times
+        text %= pending.worker.index, self.quoted[port.vertex], *times
         return Step(pending.worker, pending.batch, "release", text, entry)
 
     def broadcast(self, worker, batch, number, change):

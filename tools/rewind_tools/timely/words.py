@@ -117,9 +117,6 @@ class Words:
         if it.stop != "rest":
             why = "not all that is under way could arrive, so some of this may merely follow from the rest"
             said.append((why, 4, RED))
-        if any(reason.port.depth > 1 for reason in it.reasons):
-            why = "times with two counters are compared lexicographically here, in timely by components"
-            said.append((f"{why}: there less may hold this back", 4, ""))
         return said + self.reasons(it.reasons)
 
     def reasons(self, reasons):
