@@ -45,9 +45,8 @@ def item(it, distincts):
 def queue(it):
     sender, receiver, old, new = it
     word = "longer" if new > old else "shorter"
-    return (
-        f"the queue from processor {sender} to {receiver} gets {word}: {counted(old, 'change')}, then {new}"
-    )
+    which = f"the queue from processor {sender} to {receiver}"
+    return f"{which} gets {word}: {counted(old, 'change')}, then {new}"
 
 
 KINDS = {
