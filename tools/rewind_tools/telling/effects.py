@@ -24,11 +24,9 @@ def capability(it):
 def request(it):
     p, vertex, time, _, new = it
     there = at(vertex, time)
-    return (
-        f"processor {p} asks for a notification at {there}"
-        if new
-        else f"processor {p} no longer asks for a notification at {there}"
-    )
+    if new:
+        return f"processor {p} asks for a notification at {there}"
+    return f"processor {p} no longer asks for a notification at {there}"
 
 
 def item(it, distincts):

@@ -82,11 +82,9 @@ def line_faults(text, reply, teller):
 
 def first_line_faults(text, teller):
     """That the graph comes first, if the line stands in its place and has no sign of one."""
-    return (
-        [graph_faults.graph_first(teller.version)]
-        if teller.graph is None and b'"vertices"' not in text
-        else []
-    )
+    if teller.graph is None and b'"vertices"' not in text:
+        return [graph_faults.graph_first(teller.version)]
+    return []
 
 
 def text_faults(text, teller):
