@@ -136,7 +136,7 @@ class Follower:
             for text in self.step_texts(item) if item.kind != PASSED else ():
                 texts.append(text)
                 position += line.word in STEPS
-                if line.own.change is not None:
+                if asks_effect(item):
                     texts.append(EFFECT % position)
             widths.append(len(texts) - count)
         return texts, widths
@@ -153,7 +153,7 @@ class Follower:
     def is_plain(self, item, reply):
         """Takes note of a step that is executed, if its reply says so and nothing else is to be compared."""
         at = self.position + 1
-        if item.kind == PASSED or reply != DONE % (at, at):
+        if item.kind == PASSED or reply != DONE % (at, at) or not is_known(item):
             return False
         self.position = at
         self.executed.append(item.line)
@@ -167,13 +167,13 @@ class Follower:
             return Wrong("refused", line, json.loads(replies[0])) if is_unread(replies[0]) else None
         if line.word not in STEPS:
             return self.judged_query(line, json.loads(replies[0]))
-        width = 1 + (line.own.change is not None)
+        width = 1 + asks_effect(item)
         for at, reply in enumerate(replies[::width], self.position + 1):
             if reply != DONE % (at, at):
                 return self.refused(item, json.loads(reply))
-        if line.own.change is not None:
-            effects = (change_of(line, self.effect(it)) for it in replies[1::2])
-            moved = {point: n for of in effects for point, n in of.items()}
+        if not is_known(item):
+            effects = replies[1::2] if width > 1 else self.program.ask([EFFECT % (self.position + 1)])
+            moved = {point: n for it in effects for point, n in change_of(line, self.effect(it)).items()}
             if moved != line.own.change:
                 entries = [[name, list(time), n] for (name, time), n in moved.items()]
                 return Wrong("differs", line, {"change": entries})
@@ -233,6 +233,18 @@ class Follower:
 
     def execute_again(self):
         self.program.again([it.text for it in self.executed if it.word in STEPS])
+
+
+def asks_effect(item):
+    """Whether the program is asked what a step moved. What a broadcast moves it is asked there alone, if the
+    receives say what they move, too: a receive moves what was broadcast."""
+    return item.line.own.change is not None and item.sent is None
+
+
+def is_known(item):
+    """Whether a step that is executed moves what its line says, as far as the lines before it say that."""
+    change = item.line.own.change
+    return change is None or item.sent is not None and item.sent.own.change == change
 
 
 def with_effects(lines, position):
