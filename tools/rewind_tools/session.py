@@ -13,12 +13,12 @@ The program is ./rewind, or what REWIND_PROGRAM names in the environment. It run
 Ctrl-C at the terminal reaches the tool alone; and it ends with the tool, however that ends. Another thread
 may kill it: whoever waits for a reply then gets Ended. A name of the graph that the program does not take
 has a short one there (short_names.py), of which nobody else hears."""
+import collections
 import contextlib
 import ctypes
 import itertools
 import json
 import os
-import queue
 import signal
 import subprocess
 import tempfile
@@ -32,7 +32,7 @@ from rewind_tools.short_names import Names
 # How often the notes of ./rewind are looked for while the program starts, and how much of them is read.
 SECONDS_BETWEEN, MOST_SAID = 0.5, 1 << 20
 # What a pipe takes at once, however little room the system gives it.
-PIPE_BYTES = 4096
+PIPE_BYTES, BUFFER = 4096, 1 << 17
 # Linux ends a program with the thread that started it, if the program asks for that (prctl's number). So one
 # thread starts all of them, and stays as long as the tool.
 LIBC, PR_SET_PDEATHSIG = ctypes.CDLL(None), 1
@@ -63,7 +63,7 @@ class Session:
         self.graph, self.words, self.version, self.names = graph, list(words), version, Names(graph)
         self.errors = tempfile.TemporaryFile()
         parent = os.getpid()
-        how = {"stdin": subprocess.PIPE, "stdout": subprocess.PIPE, "stderr": self.errors}
+        how = {"stdin": subprocess.PIPE, "stdout": subprocess.PIPE, "stderr": self.errors, "bufsize": BUFFER}
         how |= {"env": environment(), "start_new_session": True, "preexec_fn": lambda: end_with(parent)}
         words = ["rewind", *self.words]
         self.process = STARTER.submit(subprocess.Popen, words, executable=PROGRAM, **how).result()
@@ -109,20 +109,17 @@ class Session:
         return replies
 
     def ask_pieces(self, pieces):
-        """The replies to lists of lines, a list for each; all lines are written while replies are read."""
-        counts = queue.SimpleQueue()
-        writer = threading.Thread(target=self.write_pieces, args=[pieces, counts], daemon=True)
-        writer.start()
-        while count := counts.get():
-            yield self.read(count)
-        writer.join()
-
-    def write_pieces(self, pieces, counts):
-        for texts in pieces:
-            texts = texts if not self.names.short else [self.names.given(it) for it in texts]
-            counts.put(len(texts))
-            self.write(b"\n".join(texts) + b"\n")
-        counts.put(0)
+        """The replies to lists of lines, a list for each; the next lists are made while the program answers."""
+        asking, asked = ThreadPoolExecutor(1), collections.deque()
+        try:
+            for texts in pieces:
+                asked.append(asking.submit(self.ask_lines, texts))
+                while asked and asked[0].done():
+                    yield asked.popleft().result()
+            while asked:
+                yield asked.popleft().result()
+        finally:
+            asking.shutdown(cancel_futures=True)
 
     def write(self, text):
         try:
