@@ -109,7 +109,7 @@ class Session:
         return replies
 
     def ask_pieces(self, pieces):
-        """The replies to lists of lines, a list for each; the next lists are made while the program answers."""
+        """The replies to lists of lines, list by list; the next ones are made while the program answers."""
         asking, asked = ThreadPoolExecutor(1), collections.deque()
         try:
             for texts in pieces:

@@ -1,6 +1,6 @@
 """Executes the lines of the traces, in batches, and compares each reply with what the line says.
 
-    follower = Follower(program, merging)      or Follower(program, merging, lines), which are executed already
+    follower = Follower(program, merging, executed)     lines that are executed already; none, if not given
     follower.follow()
     follower.executed             the Lines that were executed, in their order
     follower.wrong                by worker a Wrong, if a line of it was refused or differs

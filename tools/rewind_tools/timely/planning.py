@@ -3,7 +3,7 @@ broadcasts and receives.
 
     planner = Planner(dataflow, progress, report)
     for pieces in planner.tries():     NoOrder, if the batches wait for each other in each order tried
-        for steps in pieces:           Steps, in an order in which each can be executed; a later try begins anew
+        for steps in pieces:           Steps in an order in which each can be executed; each try begins anew
     planner.traces                     all Steps: also those from the one of a worker on that no run can have
     planner.left()                     messages that no batch says are consumed: Sent, with `left` of them
     planner.untold                     Untold messages: consumed, and no batch says that they were produced
@@ -186,6 +186,7 @@ class Planner:
                     self.totals[point] = self.totals.get(point, 0) + sign * n
                     if n > MOST_EXACT:
                         self.many.add(point)
+        self.is_uncounted = bool(self.many) or any(its[1:] for its in dataflow.into.values())
         # by a batch and a message that it consumes, the batches that consume theirs before it; and whether
         # workers may have made more messages that no batch tells than are missing, and consumed as many
         self.after, self.is_generous = {}, False
@@ -349,11 +350,18 @@ class Planner:
         if its messages are not followed one by one, or those of other scopes beside them."""
         if self.dataflow.is_nested:
             return None
-        messages, into = self.progress.changes[pending.batch].messages(), self.dataflow.into
-        if self.many and not self.many.isdisjoint(messages) or any(len(into[it]) > 1 for it, _ in messages):
+        change, located = self.progress.changes[pending.batch], self.located
+        if self.is_uncounted and any(map(self.is_uncounted_at, [*change.takes, *change.makes])):
             return None
-        located, points = self.located, [*messages.items(), *pending.turned.items()]
-        return {located[it]: n for it, n in points}
+        moved = {located[it]: -n for it, n in change.takes.items()}
+        for counts in (change.makes, pending.turned):
+            for it, n in counts.items():
+                moved[located[it]] = n
+        return moved
+
+    def is_uncounted_at(self, point):
+        """Whether messages at a point are not followed one by one, or come over one of several channels."""
+        return point in self.many or len(self.dataflow.into[point[0]]) > 1
 
     def make(self, pending, is_far):
         """Plans what a batch of a worker produces, and its new capabilities: from capabilities at the same
