@@ -6,7 +6,7 @@
     session.ask({"do": "candidates"})   the reply to a line; Ended, if the program has ended
     session.ask_all([..])               the replies to many lines, which are written while replies are read
     session.ask_lines([b"..", ..])      the same of lines given as bytes, the replies as bytes, too
-    session.ask_pieces([[b"..", ..]])   the replies to many lists of lines, as the program gives them
+    session.ask_pieces([[b"..", ..]])   the replies to many lists of lines, the bytes of each list's
     session.close()
 
 The program is ./rewind, or what REWIND_PROGRAM names in the environment. It runs in a session of its own, so
@@ -97,14 +97,17 @@ class Session:
 
     def ask_lines(self, texts):
         """The same, each reply as the line that it is."""
+        return self.exchange(texts, self.read)
+
+    def exchange(self, texts, read):
         texts = texts if not self.names.short else [self.names.given(it) for it in texts]
         text = b"\n".join([*texts, b""])
         if len(text) <= PIPE_BYTES:
             self.write(text)
-            return self.read(len(texts))
+            return read(len(texts))
         writer = threading.Thread(target=self.write, args=[text], daemon=True)
         writer.start()
-        replies = self.read(len(texts))
+        replies = read(len(texts))
         writer.join()
         return replies
 
@@ -113,7 +116,7 @@ class Session:
         asking, asked = ThreadPoolExecutor(1), collections.deque()
         try:
             for texts in pieces:
-                asked.append(asking.submit(self.ask_lines, texts))
+                asked.append(asking.submit(self.exchange, texts, self.read_bytes))
                 while asked and asked[0].done():
                     yield asked.popleft().result()
             while asked:
@@ -134,6 +137,17 @@ class Session:
         if len(lines) < count or not all(it.endswith(b"\n") for it in lines[-1:]):
             raise Ended(self.end_words())
         return lines if not self.names.short else [self.names.told(it) for it in lines]
+
+    def read_bytes(self, count):
+        """The next replies, as bytes."""
+        parts = []
+        while count:
+            parts.append(self.process.stdout.read1(BUFFER))
+            if not parts[-1]:
+                raise Ended(self.end_words())
+            count -= parts[-1].count(b"\n")
+        replies = b"".join(parts)
+        return replies if not self.names.short else self.names.told(replies)
 
     def said(self):
         """What the program has written to standard error so far, without the notes of ./rewind."""
