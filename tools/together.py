@@ -133,13 +133,8 @@ def owner(lines, at):
     first = next((i for i in range(at, -1, -1) if lines[i].startswith(("impl", "unsafe impl", "}"))), None)
     if first is None or lines[first].startswith("}"):
         return None
-    head = (
-        " ".join(lines[first : at + 1])
-        .partition("{")[0]
-        .removeprefix("unsafe ")
-        .removeprefix("impl")
-        .strip()
-    )
+    head = " ".join(lines[first : at + 1]).partition("{")[0]
+    head = head.removeprefix("unsafe ").removeprefix("impl").strip()
     own = ""
     if head.startswith("<"):
         deep = 0

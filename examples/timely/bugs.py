@@ -1,6 +1,7 @@
 """Bugs to plant. They show on worker 1, or on the only worker. Each is a class in place of an operator's
 logic or of the worker; its first line is what --bug list prints."""
 import copy
+import re
 
 from programs import Halve, Sink, Source, Total
 from worker import Capability, Worker
@@ -106,15 +107,11 @@ class CountsTwice(Worker):
         super().receive_progress(scope, source, seq_no, batch)
 
 
+# The bugs by the names that --bug takes.
 BUGS = {
-    "leak": Leak,
-    "leak-in-loop": LeakInLoop,
-    "late-advance": LateAdvance,
-    "returns-early": ReturnsEarly,
-    "drops-twice": DropsTwice,
-    "sends-late": SendsLate,
-    "never-reads": NeverReads,
-    "holds-progress": HoldsProgress,
-    "loses-batch": LosesBatch,
-    "counts-twice": CountsTwice,
-}
+    re.sub(r"\B(?=[A-Z])", "-", it.__name__).lower(): it
+    for it in (
+        Leak, LeakInLoop, LateAdvance, ReturnsEarly, DropsTwice, SendsLate, NeverReads, HoldsProgress,
+        LosesBatch, CountsTwice,
+    )
+}  # fmt: skip

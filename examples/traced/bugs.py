@@ -1,4 +1,6 @@
 """Bugs that implementers make, each planted in the worker by a line or a few, so that every run shows it."""
+import re
+
 from graph import Pointstamp
 from operators import OPERATORS, Window
 from worker import Worker
@@ -203,23 +205,12 @@ class SumMisreported(Worker):
             self.count(edge.name, (time[0] - 1,), +1)
 
 
+# The bugs by the names that --bug takes.
 BUGS = {
-    "taken-twice": TakenTwice,
-    "local-unreported": LocalUnreported,
-    "request-unreported": RequestUnreported,
-    "decrements-first": DecrementsFirst,
-    "own-at-once": OwnAtOnce,
-    "notice-by-local-state": NoticeByLocalState,
-    "probe-by-sink-alone": ProbeBySinkAlone,
-    "update-lost": UpdateLost,
-    "update-doubled": UpdateDoubled,
-    "updates-swapped": UpdatesSwapped,
-    "wrong-worker": WrongWorker,
-    "late-record": LateRecord,
-    "sum-twice": SumTwice,
-    "round-not-counted": RoundNotCounted,
-    "dropped-early": DroppedEarly,
-    "sent-early": SentEarly,
-    "released-twice": ReleasedTwice,
-    "sum-misreported": SumMisreported,
-}
+    re.sub(r"\B(?=[A-Z])", "-", it.__name__).lower(): it
+    for it in (
+        TakenTwice, LocalUnreported, RequestUnreported, DecrementsFirst, OwnAtOnce, NoticeByLocalState,
+        ProbeBySinkAlone, UpdateLost, UpdateDoubled, UpdatesSwapped, WrongWorker, LateRecord, SumTwice,
+        RoundNotCounted, DroppedEarly, SentEarly, ReleasedTwice, SumMisreported,
+    )
+}  # fmt: skip

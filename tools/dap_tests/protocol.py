@@ -72,11 +72,9 @@ LEFT_OUT = {
     "a response": (b'{"type":"response","seq":1}', "a message is not a request"),
     "no command": (b'{"type":"request","seq":1}', "a request has no number or no command"),
     "no number": (b'{"type":"request","command":"threads"}', "a request has no number or no command"),
-    "a number of another kind": (
-        b'{"type":"request","command":"threads","seq":true}',
-        "a request has no number or no command",
-    ),
-}
+    "a number of another kind":
+        (b'{"type":"request","command":"threads","seq":true}', "a request has no number or no command"),
+}  # fmt: skip
 WRONG = [[], 5, "x", {}, {"threadId": "x"}, {"threadId": 0}, {"threadId": 99}, {"threadId": 10**30}]
 WRONG += [{"frameId": [], "variablesReference": "x", "breakpoints": 5, "source": 5, "expression": 5}]
 WRONG += [{"breakpoints": [5], "source": {"path": 5}, "filters": 5, "lines": "x", "targetId": "x"}]

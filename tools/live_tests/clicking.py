@@ -260,6 +260,20 @@ class Discarding(unittest.TestCase):
             page.click(page.find("#bring-back"))
             page.says("cursor", "position 8 of 11")
 
+    def test_saved_first(self):
+        """What a step would discard is saved first, if that is clicked."""
+        with stuck() as live, Page(live) as page:
+            page.press("left")
+            page.at(10, "the past")
+            page.press("n")
+            page.wait(lambda: page.run(WARNS), "the warning")
+            page.click(page.find("#save-first"))
+            page.at(11, "the step")
+            script = page.run("return document.body.dataset.saved").encode()
+            saved = runs.run_script(script, ["--processors", "2"])
+            self.assertEqual([saved.entries[-1].reply[it] for it in ("at", "kept")], [10, 11])
+            self.assertFalse(page.run(WARNS))
+
     def test_run_that_discards(self):
         """A run in pieces says at its end how many steps it discarded at its begin."""
         with stuck() as live, Page(live) as page:

@@ -15,18 +15,10 @@ import urllib.request
 
 ELEMENT = "element-6066-11e4-a52e-4f735466cecf"
 KEYS = {
-    "left": "\ue012",
-    "right": "\ue014",
-    "down": "\ue015",
-    "home": "\ue011",
-    "end": "\ue010",
-    "enter": "\ue007",
-    "tab": "\ue004",
-    "space": "\ue00d",
-    "pageup": "\ue00e",
-    "pagedown": "\ue00f",
+    "left": "\ue012", "right": "\ue014", "down": "\ue015", "home": "\ue011", "end": "\ue010",
+    "enter": "\ue007", "tab": "\ue004", "space": "\ue00d", "pageup": "\ue00e", "pagedown": "\ue00f",
     "delete": "\ue017",
-}
+}  # fmt: skip
 PATIENCE = 20
 
 
@@ -49,26 +41,15 @@ class Browser:
     def __enter__(self):
         self.base = f"http://127.0.0.1:{free_port()}"
         port = self.base.rsplit(":", 1)[1]
-        self.driver = subprocess.Popen(
-            ["chromedriver", f"--port={port}"], stdout=subprocess.DEVNULL, stderr=subprocess.DEVNULL
-        )
+        quiet = {"stdout": subprocess.DEVNULL, "stderr": subprocess.DEVNULL}
+        self.driver = subprocess.Popen(["chromedriver", f"--port={port}"], **quiet)
         self.wait(self.is_ready, "the driver")
-        args = [
-            "--headless=new",
-            "--no-sandbox",
-            "--disable-gpu",
-            f"--window-size={self.width},{self.height}",
-            "--disable-dev-shm-usage",
-        ]
+        args = ["--headless=new", "--no-sandbox", "--disable-gpu", "--disable-dev-shm-usage"]
+        args.append(f"--window-size={self.width},{self.height}")
         if self.is_dark:
             args.append("--blink-settings=preferredColorScheme=0")
-        options = {
-            "browserName": "chrome",
-            "goog:chromeOptions": {
-                "args": args,
-                "binary": shutil.which("chromium") or shutil.which("google-chrome"),
-            },
-        }
+        binary = shutil.which("chromium") or shutil.which("google-chrome")
+        options = {"browserName": "chrome", "goog:chromeOptions": {"args": args, "binary": binary}}
         self.session = self.send("POST", "/session", {"capabilities": {"alwaysMatch": options}})["sessionId"]
         return self
 

@@ -152,13 +152,8 @@ def ordered(room):
     for sweep in range(SWEEPS):
         ahead = sweep % 2 == 0
         for at in range(len(columns)) if ahead else reversed(range(len(columns))):
-            beside = (
-                columns[at - 1]
-                if ahead and at
-                else columns[at + 1]
-                if not ahead and at + 1 < len(columns)
-                else []
-            )
+            other = at - 1 if ahead else at + 1
+            beside = columns[other] if 0 <= other < len(columns) else []
             place = {node: index for index, node in enumerate(beside)}
             own = {node: index for index, node in enumerate(columns[at])}
 

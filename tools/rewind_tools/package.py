@@ -167,13 +167,9 @@ def glibc_of(program):
 
 
 def proved_text(commit, toolchain_name, program):
-    return PROVED.format(
-        version=commit.version,
-        glibc=glibc_of(program),
-        commit=commit.number,
-        toolchain=toolchain_name,
-        program=hashlib.sha256(program).hexdigest(),
-    )
+    of_program = {"glibc": glibc_of(program), "program": hashlib.sha256(program).hexdigest()}
+    its = {"version": commit.version, "commit": commit.number, "toolchain": toolchain_name}
+    return PROVED.format(**its, **of_program)
 
 
 def entries_of(modes, proved, program):

@@ -44,7 +44,8 @@ def reporting(report):
         for seconds in itertools.count(BETWEEN, BETWEEN):
             if is_over.wait(BETWEEN):
                 return
-            report(f"working for {seconds} s")
+            with contextlib.suppress(OSError):  # nobody may read it any more
+                report(f"working for {seconds} s")
 
     ticking = threading.Thread(target=tick, daemon=True)
     ticking.start()

@@ -6,19 +6,19 @@
     session.ask({"do": "candidates"})   the reply to a line; Ended, if the program has ended
     session.ask_all([..])               the replies to many lines, which are written while replies are read
     session.ask_lines([b"..", ..])      the same of lines given as bytes, the replies as bytes, too
-    session.ask_pieces([[b"..", ..]])   the replies to many lists of lines, as the program gives them
+    session.ask_pieces([[b"..", ..]])   the replies to many lists of lines, the bytes of each list's
     session.close()
 
 The program is ./rewind, or what REWIND_PROGRAM names in the environment. It runs in a session of its own, so
 Ctrl-C at the terminal reaches the tool alone; and it ends with the tool, however that ends. Another thread
 may kill it: whoever waits for a reply then gets Ended. A name of the graph that the program does not take
 has a short one there (short_names.py), of which nobody else hears."""
+import collections
 import contextlib
 import ctypes
 import itertools
 import json
 import os
-import queue
 import signal
 import subprocess
 import tempfile
@@ -32,7 +32,7 @@ from rewind_tools.short_names import Names
 # How often the notes of ./rewind are looked for while the program starts, and how much of them is read.
 SECONDS_BETWEEN, MOST_SAID = 0.5, 1 << 20
 # What a pipe takes at once, however little room the system gives it.
-PIPE_BYTES = 4096
+PIPE_BYTES, BUFFER = 4096, 1 << 17
 # Linux ends a program with the thread that started it, if the program asks for that (prctl's number). So one
 # thread starts all of them, and stays as long as the tool.
 LIBC, PR_SET_PDEATHSIG = ctypes.CDLL(None), 1
@@ -63,7 +63,7 @@ class Session:
         self.graph, self.words, self.version, self.names = graph, list(words), version, Names(graph, version)
         self.errors = tempfile.TemporaryFile()
         parent = os.getpid()
-        how = {"stdin": subprocess.PIPE, "stdout": subprocess.PIPE, "stderr": self.errors}
+        how = {"stdin": subprocess.PIPE, "stdout": subprocess.PIPE, "stderr": self.errors, "bufsize": BUFFER}
         how |= {"env": environment(), "start_new_session": True, "preexec_fn": lambda: end_with(parent)}
         words = ["rewind", *self.words]
         self.process = STARTER.submit(subprocess.Popen, words, executable=PROGRAM, **how).result()
@@ -97,32 +97,32 @@ class Session:
 
     def ask_lines(self, texts):
         """The same, each reply as the line that it is."""
+        return self.exchange(texts, self.read)
+
+    def exchange(self, texts, read):
         texts = texts if not self.names.short else [self.names.given(it) for it in texts]
         text = b"\n".join([*texts, b""])
         if len(text) <= PIPE_BYTES:
             self.write(text)
-            return self.read(len(texts))
+            return read(len(texts))
         writer = threading.Thread(target=self.write, args=[text], daemon=True)
         writer.start()
-        replies = self.read(len(texts))
+        replies = read(len(texts))
         writer.join()
         return replies
 
     def ask_pieces(self, pieces):
-        """The replies to lists of lines, a list for each; all lines are written while replies are read."""
-        counts = queue.SimpleQueue()
-        writer = threading.Thread(target=self.write_pieces, args=[pieces, counts], daemon=True)
-        writer.start()
-        while count := counts.get():
-            yield self.read(count)
-        writer.join()
-
-    def write_pieces(self, pieces, counts):
-        for texts in pieces:
-            texts = texts if not self.names.short else [self.names.given(it) for it in texts]
-            counts.put(len(texts))
-            self.write(b"\n".join(texts) + b"\n")
-        counts.put(0)
+        """The replies to lists of lines, list by list; the next ones are made while the program answers."""
+        asking, asked = ThreadPoolExecutor(1), collections.deque()
+        try:
+            for texts in pieces:
+                asked.append(asking.submit(self.exchange, texts, self.read_bytes))
+                while asked and asked[0].done():
+                    yield asked.popleft().result()
+            while asked:
+                yield asked.popleft().result()
+        finally:
+            asking.shutdown(cancel_futures=True)
 
     def write(self, text):
         try:
@@ -137,6 +137,17 @@ class Session:
         if len(lines) < count or not all(it.endswith(b"\n") for it in lines[-1:]):
             raise Ended(self.end_words())
         return lines if not self.names.short else [self.names.told(it) for it in lines]
+
+    def read_bytes(self, count):
+        """The next replies, as bytes."""
+        parts = []
+        while count:
+            parts.append(self.process.stdout.read1(BUFFER))
+            if not parts[-1]:
+                raise Ended(self.end_words())
+            count -= parts[-1].count(b"\n")
+        replies = b"".join(parts)
+        return replies if not self.names.short else self.names.told(replies)
 
     def said(self):
         """What the program has written to standard error so far, without the notes of ./rewind."""

@@ -65,12 +65,8 @@ def number_up_to(most):
 
 def parser(name, description, options=("processors", "clients")):
     """A parser for the tool of that name; its description is shown as it is written."""
-    made = Parser(
-        f"tools/{name}",
-        description=description,
-        formatter_class=argparse.RawDescriptionHelpFormatter,
-        allow_abbrev=False,
-    )
+    how = {"formatter_class": argparse.RawDescriptionHelpFormatter, "allow_abbrev": False}
+    made = Parser(f"tools/{name}", description=description, **how)
     for option in options:
         said = f"number of {option}, 1 to {MOST[option]}; 1 if not given"
         made.add_argument(f"--{option}", type=number_up_to(MOST[option]), metavar="N", help=said)

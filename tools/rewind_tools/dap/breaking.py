@@ -61,14 +61,19 @@ class Breaking:
     def set_line(self, wanted):
         """Sets a breakpoint at a line of the list."""
         position, told = wanted["line"] - self.first_line, {"id": self.new_number(), "line": wanted["line"]}
-        try:
-            self.moving.breakpoints.set_line(told["id"], position, wanted.get("condition"))
-        except NotSet as fault:
-            return {**told, "verified": False, "message": str(fault)}
-        if position > self.console.kept:
+        told = self.tried(told, self.moving.breakpoints.set_line, position, wanted.get("condition"))
+        if told["verified"] and position > self.console.kept:
             self.moving.breakpoints.unkept.add(told["id"])
             return {**told, "verified": False, "message": NOT_KEPT}
-        return {**told, "verified": True}
+        return told
+
+    def tried(self, told, setting, *values):
+        """What is told of a breakpoint that is set, or cannot be."""
+        try:
+            made = setting(told["id"], *values)
+        except NotSet as fault:
+            return {**told, "verified": False, "message": str(fault)}
+        return {**told, "verified": True, **({"message": made.words} if made else {})}
 
     def verify_lines(self):
         """Says which breakpoints have come to be at a kept step."""
@@ -95,11 +100,7 @@ class Breaking:
     def set_condition(self, wanted):
         told, more = {"id": self.new_number()}, wanted.get("condition")
         text = f"{wanted['name']} and {more}" if more else wanted["name"]
-        try:
-            condition = self.moving.breakpoints.set_condition(told["id"], text)
-        except NotSet as fault:
-            return {**told, "verified": False, "message": str(fault)}
-        return {**told, "verified": True, "message": condition.words}
+        return self.tried(told, self.moving.breakpoints.set_condition, text)
 
     # ---- entries of views
 
@@ -136,13 +137,10 @@ class Breaking:
         told = {"id": self.new_number()}
         try:
             point = json.loads(wanted["dataId"])
-            q, place, time = point["q"], point["at"], point["time"]
-            entry = self.moving.breakpoints.set_entry(told["id"], q, place, time)
+            its = point["q"], point["at"], point["time"]
+            return self.tried(told, self.moving.breakpoints.set_entry, *its)
         except (ValueError, KeyError, TypeError):
             return {**told, "verified": False, "message": "this is not an entry of a view"}
-        except NotSet as fault:
-            return {**told, "verified": False, "message": str(fault)}
-        return {**told, "verified": True, "message": entry.words}
 
     # ---- refused lines of the script
 

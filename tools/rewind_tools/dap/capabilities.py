@@ -1,21 +1,11 @@
 """What the adapter tells an editor that it can."""
 
+SUPPORTED = """ConfigurationDoneRequest FunctionBreakpoints ConditionalBreakpoints DataBreakpoints
+EvaluateForHovers StepBack RestartRequest GotoTargetsRequest CompletionsRequest ExceptionInfoRequest
+TerminateRequest CancelRequest LoadedSourcesRequest SingleThreadExecutionRequests""".split()
 CAPABILITIES = {
-    "supportsConfigurationDoneRequest": True,
-    "supportsFunctionBreakpoints": True,
-    "supportsConditionalBreakpoints": True,
-    "supportsDataBreakpoints": True,
-    "supportsEvaluateForHovers": True,
-    "supportsStepBack": True,
-    "supportsRestartRequest": True,
-    "supportsGotoTargetsRequest": True,
-    "supportsCompletionsRequest": True,
+    **{f"supports{it}": True for it in SUPPORTED},
     "completionTriggerCharacters": [" "],
-    "supportsExceptionInfoRequest": True,
-    "supportsTerminateRequest": True,
-    "supportsCancelRequest": True,
-    "supportsLoadedSourcesRequest": True,
-    "supportsSingleThreadExecutionRequests": True,
     "exceptionBreakpointFilters": [
         {"filter": "refused", "label": "Lines of the script that are refused", "default": True}
     ],

@@ -1,7 +1,7 @@
 """Executes the lines of the traces, in batches, and compares each reply with what the line says.
 
-    follower = Follower(program, merging)
-    follower.follow()             or follow(lines): these first, in an order in which they can be executed
+    follower = Follower(program, merging, executed)     lines that are executed already; none, if not given
+    follower.follow()
     follower.executed             the Lines that were executed, in their order
     follower.wrong                by worker a Wrong, if a line of it was refused or differs
     follower.waiting              by worker the program's refusal of a line that waits for others
@@ -23,9 +23,7 @@ from rewind_tools.following.traces import LONGEST
 from rewind_tools.tool import Fault
 
 MOST_STEPS = 1_000_000
-# How many lines are executed at once whose order is known.
-PIECE = 4_000
-EFFECT, EFFECT_OF = b'{"do":"effect","to":%d}', b'{"changed":'
+EFFECT = b'{"do":"effect","to":%d}'
 DONE = b'{"at":%d,"kept":%d,"ok":true}\n'
 NO_RECORD, NOTHING_TO_SEND, QUEUE_EMPTY, QUEUE_FULL = 8, 15, 17, 18
 # The refusals that another worker's line may end; those that are no refusals of the protocol.
@@ -50,16 +48,15 @@ class Again(NamedTuple):
 
 
 class Follower:
-    def __init__(self, program, merging):
+    def __init__(self, program, merging, executed=()):
         self.program, self.merging = program, merging
-        self.position, self.executed = 0, []
+        self.position, self.executed = len(executed), list(executed)
         self.wrong, self.waiting, self.is_full = {}, {}, False
+        merging.pass_by(self.executed)
 
-    def follow(self, order=()):
-        """Executes what can be executed; `order` has the lines that come first, if that is known."""
+    def follow(self):
+        """Executes what can be executed."""
         count = sum(map(len, self.merging.lines))
-        if order:
-            self.execute_all(order[:MOST_STEPS], count)
         while not self.merging.is_done():
             self.program.progress("lines executed", sum(self.merging.at), count)
             batch = self.merging.plan(MOST_STEPS - self.position)
@@ -70,32 +67,6 @@ class Follower:
                 return
             elif not self.try_waiting():
                 return
-
-    def execute_all(self, order, count):
-        """Executes lines that are expected to be executed, up to the first piece of which one is not."""
-        pieces = [order[at : at + PIECE] for at in range(0, len(order), PIECE)]
-        texts = (with_effects(it, at * PIECE + 1) for at, it in enumerate(pieces))
-        replies, is_right = self.program.ask_pieces(texts), True
-        for piece, its in zip(pieces, replies):
-            is_right = is_right and self.are_done(piece, its)
-            if is_right:
-                self.position += len(piece)
-                self.executed += piece
-                self.program.progress("lines executed", self.position, count)
-        self.merging.pass_by(self.executed)
-        if not is_right:
-            self.return_to_position()
-
-    def are_done(self, lines, replies):
-        """Whether all of some lines were executed, and move what they say. Each line that is executed moves
-        the position by one, so the last reply but effects says whether all were."""
-        effects = [it for it in replies if it.startswith(EFFECT_OF)]
-        last = self.position + len(lines)
-        changed = [it for it in lines if it.own.change is not None]
-        is_done = replies[-1 if lines[-1].own.change is None else -2] == DONE % (last, last)
-        return is_done and all(
-            change_of(line, json.loads(it)) == line.own.change for line, it in zip(changed, effects)
-        )
 
     def try_waiting(self):
         """Gives the program the line of each worker that waits; whether that led to anything."""
@@ -136,7 +107,7 @@ class Follower:
             for text in self.step_texts(item) if item.kind != PASSED else ():
                 texts.append(text)
                 position += line.word in STEPS
-                if line.own.change is not None:
+                if asks_effect(item):
                     texts.append(EFFECT % position)
             widths.append(len(texts) - count)
         return texts, widths
@@ -153,7 +124,7 @@ class Follower:
     def is_plain(self, item, reply):
         """Takes note of a step that is executed, if its reply says so and nothing else is to be compared."""
         at = self.position + 1
-        if item.kind == PASSED or reply != DONE % (at, at):
+        if item.kind == PASSED or reply != DONE % (at, at) or not is_known(item):
             return False
         self.position = at
         self.executed.append(item.line)
@@ -167,13 +138,13 @@ class Follower:
             return Wrong("refused", line, json.loads(replies[0])) if is_unread(replies[0]) else None
         if line.word not in STEPS:
             return self.judged_query(line, json.loads(replies[0]))
-        width = 1 + (line.own.change is not None)
+        width = 1 + asks_effect(item)
         for at, reply in enumerate(replies[::width], self.position + 1):
             if reply != DONE % (at, at):
                 return self.refused(item, json.loads(reply))
-        if line.own.change is not None:
-            effects = (change_of(line, self.effect(it)) for it in replies[1::2])
-            moved = {point: n for of in effects for point, n in of.items()}
+        if not is_known(item):
+            effects = replies[1::2] if width > 1 else self.program.ask([EFFECT % (self.position + 1)])
+            moved = {point: n for it in effects for point, n in change_of(line, self.effect(it)).items()}
             if moved != line.own.change:
                 entries = [[name, list(time), n] for (name, time), n in moved.items()]
                 return Wrong("differs", line, {"change": entries})
@@ -223,27 +194,21 @@ class Follower:
             worker = outcome.line.worker
             self.wrong[worker], self.merging.has_stopped[worker] = outcome, True
         if isinstance(outcome, Again):
-            self.execute_again()
+            self.program.again([it.text for it in self.executed if it.word in STEPS])
         elif has_moved:
-            self.return_to_position()
-
-    def return_to_position(self):
-        if "error" in self.program.asked({"do": "jump", "to": self.position}):
-            self.execute_again()  # whose log is full
-
-    def execute_again(self):
-        self.program.again([it.text for it in self.executed if it.word in STEPS])
+            self.program.go_to([it.text for it in self.executed if it.word in STEPS])
 
 
-def with_effects(lines, position):
-    """The lines for the program, the first of which leads to a position; after each that says what it moves
-    the question what it moved."""
-    texts = []
-    for at, line in enumerate(lines, position):
-        texts.append(line.text)
-        if line.own.change is not None:
-            texts.append(EFFECT % at)
-    return texts
+def asks_effect(item):
+    """Whether the program is asked what a step moved. What a broadcast moves it is asked there alone, if the
+    receives say what they move, too: a receive moves what was broadcast."""
+    return item.line.own.change is not None and item.sent is None
+
+
+def is_known(item):
+    """Whether a step that is executed moves what its line says, as far as the lines before it say that."""
+    change = item.line.own.change
+    return change is None or item.sent is not None and item.sent.own.change == change
 
 
 def parts_of(line, unsent):

@@ -41,12 +41,13 @@ def is_long(line):
 
 class Item:
     """A line in a batch: how it was planned, the last number that was received before it, and how many steps
-    it has: several if it is a broadcast in parts, or a receive of one."""
+    it has: several if it is a broadcast in parts, or a receive of one. Of a receive that has a change `sent`
+    is the broadcast, if that has one, too."""
 
-    __slots__ = ("line", "kind", "got", "steps")
+    __slots__ = ("line", "kind", "got", "steps", "sent")
 
-    def __init__(self, line, kind, got, steps):
-        self.line, self.kind, self.got, self.steps = line, kind, got, steps
+    def __init__(self, line, kind, got, steps, sent=None):
+        self.line, self.kind, self.got, self.steps, self.sent = line, kind, got, steps, sent
 
 
 class Batch:
@@ -85,6 +86,7 @@ class Merging:
         self.records = {}
         # by worker the broadcasts so far, those that were passed over, and the first that is still open
         self.sent, self.nothing, self.open = [0] * count, [set() for _ in lines], [None] * count
+        self.broadcasts = [[] for _ in lines]
         # by sender and receiver the last number that was received, and how many changes are on their way
         self.got = [[0] * count for _ in lines]
         self.queued = [[0] * count for _ in lines]
@@ -136,10 +138,18 @@ class Merging:
         got, steps = self.got_before(line), 1
         if self.parts and got is not None:
             steps = self.parts.get((line.needs, self.following(line)), 1)
-        batch.add(Item(line, kind, got, steps))
+        sent = self.broadcast_of(line) if got is not None and steps == 1 else None
+        batch.add(Item(line, kind, got, steps, sent))
         self.at[line.worker] += 1
         if kind != LAST:
             self.apply(line, kind)
+
+    def broadcast_of(self, line):
+        """The broadcast that a receive receives, if both have a change."""
+        sent, number = self.broadcasts[line.needs], self.following(line)
+        if line.own.change is None or number > len(sent) or sent[number - 1].own.change is None:
+            return None
+        return sent[number - 1]
 
     def pass_by(self, executed):
         """Counts lines that were executed without a plan."""
@@ -219,6 +229,7 @@ class Merging:
             self.queued[line.needs][line.worker] -= kind != PASSED
         elif line.word == "broadcast":
             self.sent[line.worker] += 1
+            self.broadcasts[line.worker].append(line)
             self.count_queued(line.worker, 1)
             if may_be_nothing(line) and self.open[line.worker] is None:
                 self.open[line.worker] = self.sent[line.worker]
@@ -238,6 +249,7 @@ class Merging:
             self.queued[line.needs][line.worker] += item.kind != PASSED
         elif line.word == "broadcast":
             self.sent[line.worker] -= 1
+            self.broadcasts[line.worker].pop()
             self.count_queued(line.worker, -1)
         if line.word == "take":
             self.count_record(line.needs, 1)

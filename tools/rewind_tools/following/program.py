@@ -3,8 +3,9 @@
     program = Program(graph, 3, on_note)        GraphRefused, if it refuses the graph
     program.progress("lines read", 1000, 5000)  says now and then how far the work is
     program.ask([b"..", b".."])                 the reply to each line, as bytes
-    program.ask_pieces([[b"..", ..], ..])       the replies to many lists of lines, a list for each
+    program.ask_pieces([[b"..", ..], ..])       the replies to many lists of lines, the bytes of each
     program.asked({"do": "state"})              the reply to one line, as a value
+    program.go_to([b"..", ..])                  goes back to the position after these lines
     program.again([b"..", ..])                  a new process, which executes these lines first
     program.close()
 
@@ -83,14 +84,19 @@ class Program:
         return list(map(self.names.told, self.session.ask_lines(list(map(self.names.given, texts)))))
 
     def ask_pieces(self, pieces):
-        """The replies to lists of lines, list by list; lines are written while replies are read."""
+        """The replies to lists of lines, list by list; the next ones are made while the program answers."""
         if not self.names.short:
             return self.session.ask_pieces(pieces)
         given = ([self.names.given(it) for it in texts] for texts in pieces)
-        return (list(map(self.names.told, it)) for it in self.session.ask_pieces(given))
+        return map(self.names.told, self.session.ask_pieces(given))
 
     def asked(self, value):
         return json.loads(self.ask([json.dumps(value, separators=(",", ":")).encode()])[0])
+
+    def go_to(self, texts):
+        """Goes back to the position after some lines, all of them steps."""
+        if "error" in self.asked({"do": "jump", "to": len(texts)}):
+            self.again(texts)  # since the log is full
 
     def again(self, texts):
         """Executes lines that were executed before in a new process, whose log has room."""

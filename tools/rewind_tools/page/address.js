@@ -8,7 +8,7 @@ const QUICK = 600;
 let isFollowing = true, notedAt = -QUICK;
 
 function addressNow() {
-  const why = question(), at = `#at=${source.position()}`;
+  const why = question(), at = `#at=${state.position}`;
   if (!why) return at;
   const parts = [why.q, encodeURIComponent(why.at), ...(why.time || [])];
   return `${at}&why=${parts.join(",")}${why.before ? "&before" : ""}`;

@@ -63,7 +63,7 @@ export async function refresh() {
 export async function take({ picture, revision }) {
   const { picture: old, sight } = state, before = old && picture.at === old.at + 1 ? old : null;
   const { why, steps } = picture;
-  set({ revision, before, picture, why, steps, candidates: null, isStale: state.waiting > 1, sight: { ...sight, first: steps.first } });
+  set({ revision, before, picture, position: picture.at, why, steps, candidates: null, isStale: state.waiting > 1, sight: { ...sight, first: steps.first } });
   if (state.isStale) return;
   const told = await asked("candidates", { first: sight.candidates });
   if (told.revision === revision) set({ candidates: told.candidates });

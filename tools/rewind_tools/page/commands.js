@@ -5,8 +5,6 @@ import { about, say, set, state } from "./store.js";
 
 const FIRST_PIECE = 200, SMALLEST_PIECE = 20, LARGEST_PIECE = 20000, PIECE_TAKES = 250, MOST_STEPS = 1000000n;
 const STEPS = ["feed", "take", "notice", "send", "release", "broadcast", "receive", "run"];
-// The processors that run; all if none is chosen.
-export const onlyChosen = new Set();
 
 // A line is an object, or the text of one, whose numbers a browser would round.
 function textOf(line) {
@@ -27,7 +25,7 @@ function isWarned(count) {
   return new Promise((done) => {
     const end = (isGoing) => { by("warning").close(); done(isGoing); };
     by("go-on").onclick = () => end(true);
-    by("save-first").onclick = () => save().then(() => end(true));
+    by("save-first").onclick = async () => { if (await save()) end(true); };
     by("leave").onclick = by("warning").oncancel = () => end(false);
   });
 }
@@ -85,7 +83,7 @@ export function run(count) {
   const seed = hasSeed ? numberOf(by("seed").value, GREATEST_SEED) : {};
   if (limit.fault) return say(`run: at most how many steps? ${limit.fault}`, true);
   if (seed.fault) return say(`by lot: which seed? ${seed.fault}`, true);
-  const only = [...onlyChosen].sort((one, other) => one - other);
+  const { only } = state;
   return execute(`{"do":"run","limit":${limit.number}${only.length ? `,"only":[${only}]` : ""}${hasSeed ? `,"seed":${seed.number}` : ""}}`, runInPieces);
 }
 
@@ -135,11 +133,13 @@ function download(text, kind, ending) {
   return link.download;
 }
 
+// Saves the kept steps as a script; returns whether that was done.
 export function save() {
   return inTurn(async () => {
     const told = await asked("save", {}), name = download(told.script, "text/plain", "-kept.jsonl");
     document.body.dataset.saved = told.script;
     say(`saved as ${name}; ./rewind ${told.words.join(" ")} < ${name} executes it again`);
+    return true;
   });
 }
 

@@ -1,13 +1,11 @@
 // The graph: what stands at each place, what changed there, what was asked about, and its size.
 import { by } from "./base.js";
-import { about, state, view } from "./store.js";
+import { about, set, state, view } from "./store.js";
 import { choosePlace } from "./why.js";
 
 const COUNT_LETTER = 7.3, LARGEST_FIT = 1.5, LEAST_FIT = 0.75, SMALLEST_ZOOM = 0.3, LARGEST_ZOOM = 4;
 const graph = document.querySelector(".graph"), frame = document.querySelector("#drawing .wide");
 const places = [...document.querySelectorAll(".graph .place")], edges = [...document.querySelectorAll(".graph .edge")];
-// How much larger the graph is than it was laid out; null to fit it into its frame.
-let zoom = null;
 
 // What stands at a place, as the graph and as a screen reader have it.
 function countText(here, isLabel) {
@@ -68,24 +66,24 @@ function fitting() {
 }
 
 function showZoom() {
-  const times = zoom === null ? fitting() : zoom;
+  const times = state.zoom || fitting();
   graph.style.width = `${Math.floor(Number(graph.dataset.width) * times)}px`;
   by("zoom").textContent = `${Math.round(times * 100)} %`;
 }
 
 function zoomBy(factor) {
-  zoom = factor && Math.max(SMALLEST_ZOOM, Math.min(LARGEST_ZOOM, (zoom === null ? fitting() : zoom) * factor));
-  showZoom();
+  set({ zoom: Math.max(SMALLEST_ZOOM, Math.min(LARGEST_ZOOM, (state.zoom || fitting()) * factor)) });
 }
 
 if (graph) {
   by("larger").addEventListener("click", () => zoomBy(1.25));
   by("smaller").addEventListener("click", () => zoomBy(0.8));
-  by("fit").addEventListener("click", () => zoomBy(null));
+  by("fit").addEventListener("click", () => set({ zoom: null }));
   new ResizeObserver(() => requestAnimationFrame(() => {
-    if (zoom === null) showZoom();
+    if (state.zoom === null) showZoom();
     showChangedPlace();
   })).observe(frame);
+  view(["zoom"], showZoom, false);
 }
 for (const place of places) {
   const choose = () => choosePlace(Number(place.dataset.place));

@@ -2,18 +2,17 @@
 import { noteNothing, openAddress } from "./address.js";
 import { asked, cancel, GONE, inTurn, progress, refresh } from "./asking.js";
 import { button, by, labelled, numberOf, onSubmit } from "./base.js";
-import { bringBack, execute, exportPage, jump, onlyChosen, refreshed, run, save, step } from "./commands.js";
+import { bringBack, execute, exportPage, jump, refreshed, run, save, step } from "./commands.js";
 import { finishButton, finishPart } from "./finishing.js";
 import "./forms.js";
 import "./graph.js";
 import { heldForms } from "./held.js";
 import { listen } from "./keys.js";
-import { about, processors, say, source, state, view } from "./store.js";
+import { about, processors, say, set, source, state, view } from "./store.js";
 import { ZOOM_KEYS, ZOOMS } from "./time.js";
 
 Object.assign(source, {
   isLive: true, execute, heldForms, finishButton, finishPart, goToStep: jump, look: () => inTurn(refresh),
-  position: () => state.picture.at,
   goToAddress: (at) => (at !== null && at !== state.picture.at && at <= state.picture.kept ? jump(at) : inTurn(refresh)),
   showFrom: (key, first) => refreshed({ [key]: first }),
   states: (positions) => inTurn(async () => {
@@ -52,13 +51,14 @@ function showChoice() {
 
 // A button for each processor, by which it runs alone or with others that are chosen.
 function onlyButton(name, p) {
-  const it = labelled(button(`${p}`, () => {
-    if (!onlyChosen.delete(p)) onlyChosen.add(p);
-    it.setAttribute("aria-pressed", onlyChosen.has(p));
-  }), `only ${name}`);
+  const press = () => set({ only: processors().map((_, q) => q).filter((q) => state.only.includes(q) !== (q === p)) });
+  const it = labelled(button(`${p}`, press), `only ${name}`);
   it.title = `next step and run execute steps of ${name}; of all processors if none is chosen`;
-  it.setAttribute("aria-pressed", false);
   return it;
+}
+
+function showOnly() {
+  by("only").querySelectorAll("button").forEach((it, p) => it.setAttribute("aria-pressed", state.only.includes(p)));
 }
 
 function sayGone(text) {
@@ -90,7 +90,9 @@ by("choice").addEventListener("change", showChoice);
 if (about.processors > 1) by("only").append("only processor", ...processors().map(onlyButton));
 view(["picture"], showBar);
 view(["cursor"], () => showCursor(state.cursor));
+view(["only"], showOnly, false);
 showChoice();
+showOnly();
 listen();
 watchServer();
 inTurn(refresh).then(openAddress);

@@ -4,14 +4,14 @@ import { by, made, numberOf, onSubmit, timeText } from "./base.js";
 import { showHolding } from "./graph.js";
 import { listen } from "./keys.js";
 import { BINS, compareTimes, MOST_LISTED, overQuestion, windowOf } from "./known.js";
-import { about, derived, processors, question, say, set, source, state } from "./store.js";
+import { about, derived, processors, question, say, set, source, state, view } from "./store.js";
 import { ZOOM_KEYS, ZOOMS } from "./time.js";
 import { askFirst } from "./why.js";
 
 const recording = JSON.parse(by("recorded").textContent), lastOne = recording.ats.length - 1, opened = new Map();
-// What is known of all kept steps; the position that is shown, and what is recorded there; and the one that was asked for
-// last, since keys may follow one another quickly.
-let log = null, position = 0, told = {}, wanted = about.opens, shown = null;
+// What is known of all kept steps; the position that was asked for last, since keys may follow one another quickly; and
+// when it is shown.
+let log = null, wanted = about.opens, shown = null;
 
 async function unpacked(text) {
   const bytes = Uint8Array.from(atob(text), (it) => it.charCodeAt(0));
@@ -134,6 +134,7 @@ async function positionOf(at) {
 
 // The line and its reply stand at the line's last position; the steps of a run have neither.
 function showLine() {
+  const { told, position } = state;
   const client = told.client === null ? "" : `client ${told.client}: `, line = told.line === null ? "" : `line ${told.line}, `;
   const step = told.step ? `step ${told.step} of ${told.ran} of this run: ` : "";
   by("asked").textContent = client + step + told.asked;
@@ -149,6 +150,7 @@ function showLine() {
 
 // What the panel says where the page has no answer about a point.
 function withoutAnswer({ q, at }) {
+  const { told } = state;
   const here = Object.keys(told.why || {}).filter((it) => it.startsWith(`${q} ${at} (`));
   if (here.length) return `no answer is recorded about this time of ${at}, but about ${here.map((it) => it.split(" ")[2]).join(", ")}`;
   const which = { all: "nothing stands there at this position", fewer: "the page has answers here about times that a vertex waits for or a line asks about", none: "the page has no answers at this position" };
@@ -156,7 +158,7 @@ function withoutAnswer({ q, at }) {
 }
 
 function whyAnswer(asked) {
-  const { q, at, before } = asked, all = told.why || {}, time = asked.time || arrivingAt(q, at);
+  const { q, at, before } = asked, all = state.told.why || {}, time = asked.time || arrivingAt(q, at);
   const key = time ? `${q} ${at} ${timeText(time)}${before ? " before" : ""}` : Object.keys(all).find((it) => it.startsWith(`${q} ${at} (`));
   return { time, ...(all[key] || { error: withoutAnswer(asked) }) };
 }
@@ -169,21 +171,20 @@ function arrivingAt(q, place) {
 }
 
 async function show(at) {
-  const [now, old] = [await positionOf(at), await positionOf(at - 1)], picture = now.picture || null;
-  [position, told, state.picture] = [at, now, picture];
+  const [told, old] = [await positionOf(at), await positionOf(at - 1)], picture = told.picture || null;
+  Object.assign(state, { told, picture });
   document.querySelector("main").classList.toggle("empty", !picture);
-  showLine();
   const why = picture && question() && whyAnswer(question()), before = (picture && old.picture) || null;
-  set({ picture, before, why, candidates: picture && picture.candidates });
+  set({ told, position: at, picture, before, why, candidates: picture && picture.candidates });
   if (!picture) showHolding(Number.isInteger(told.mark) ? [{ place: told.mark }] : []);
   else if (!question()) await askFirst();
-  document.body.dataset.position = position;
+  document.body.dataset.position = at;
 }
 
 // Goes to a position, which is shown anew if it has to be; answers when it is shown.
 function goTo(at, isAnew = false) {
   wanted = Math.max(0, Math.min(lastOne, at));
-  shown = shown.then(() => (wanted === position && told.asked !== undefined && !isAnew ? undefined : show(wanted)));
+  shown = shown.then(() => (wanted === state.position && state.told.asked !== undefined && !isAnew ? undefined : show(wanted)));
   return shown;
 }
 
@@ -201,16 +202,15 @@ function lineOn() {
 // The position of the page nearest to this one with the cursor at a step, -1 if there is none.
 function nearest(step) {
   const there = recording.ats.flatMap((at, index) => (at === step ? [index] : []));
-  there.sort((one, other) => Math.abs(one - position) - Math.abs(other - position));
+  there.sort((one, other) => Math.abs(one - state.position) - Math.abs(other - state.position));
   return there.length ? there[0] : -1;
 }
 
 Object.assign(source, {
   isLive: false,
-  position: () => position,
   goToStep: (step) => { if (nearest(step) >= 0) goTo(nearest(step)); },
   look() {},
-  goToAddress: (at) => goTo(at === null ? position : at, true),
+  goToAddress: (at) => goTo(at === null ? state.position : at, true),
   async states(positions) {
     const all = await Promise.all(positions.map((it) => positionOf(nearest(it))));
     return all.map((it) => it.picture && it.picture.state);
@@ -237,6 +237,7 @@ derived(["picture", "why", "sight"], () => {
   state.sight.first = state.steps.first;
   state.over = overAll();
 });
+view(["told"], showLine, false);
 by("slider").addEventListener("input", () => goTo(Number(by("slider").value)));
 listen();
 shown = unpacked(recording.over).then((it) => { log = it; });

@@ -1,13 +1,16 @@
 // What the page knows, in one place, and the views that draw it.
 export const about = JSON.parse(document.body.dataset.about);
 export const state = {
-  // What is shown at the cursor; the same one step before, if that was shown last; and what is asked for beside it.
-  picture: null, before: null, steps: null, candidates: null, why: null,
+  // Which position is shown, and what is there; the same one step before, if that was shown last; and what is asked beside
+  // it. Of a recorded page a position is one of its own, of which `told` is all that is recorded.
+  position: 0, told: {}, picture: null, before: null, steps: null, candidates: null, why: null,
   // The point and the processor that are asked about. Without a time it is the earliest that can arrive.
   chosen: { q: 0, place: null, time: null, before: false },
   // What is in sight: the first point of the table, the first candidate, a condition; how many steps and from which on,
   // null for those around the cursor; and at which cursor that was chosen.
   sight: { points: 0, candidates: 0, when: null, count: 60, first: null, of: null },
+  // The processors that run, all if none is chosen; and how much larger than laid out the graph is, null to fit it in.
+  only: [], zoom: null,
   // What is known of all kept steps; how the point can finish; the steps that were found; what is compared; the tab.
   over: { about: "null", said: "", lanes: [], density: [], near: null, carried: {}, origin: null, times: [] },
   finishing: null, found: null, compared: { position: null, states: null }, tab: "now",

@@ -1,6 +1,6 @@
 """The loops of a graph and its operators by ports, and the frame round each: a rectangle in each row of the
 drawing in which it has vertices, and one round each fold between them. Where another vertex stands in such a
-rectangle, the frame follows the vertices and the edges that are in it."""
+rectangle, there are several in place of it."""
 from html import escape
 
 # How far the frame of an outermost loop goes beyond what is in it.
@@ -44,14 +44,25 @@ def rect(box, rx=12):
 
 
 def frames(drawn, inner, others, rim):
-    """The boxes around what is in a loop: one for each row, or, if another vertex would be in it, one for
-    each thing."""
+    """The boxes around what is in a loop: one for each row, or, if another vertex would be in it, a few."""
     found = []
     for top, bottom in drawn.bands:
-        there = [it for it in inner if top - 1 <= (it[1] + it[3]) / 2 <= bottom + 1]
-        one = [around(there, rim)] if there else []
-        is_free = not any(meet(*one, it) for it in others) if one else True
-        found += one if is_free else [around([it], rim) for it in there]
+        there = sorted(it for it in inner if top - 1 <= (it[1] + it[3]) / 2 <= bottom + 1)
+        found += [around([it], rim) for it in joined(there, others, rim)]
+    return found
+
+
+def joined(boxes, others, rim):
+    """The boxes, from left to right, joined to larger ones in which no other is."""
+    found = []
+    for it in boxes:
+        both = [(at, around([one, it], 0)) for at, one in enumerate(found)]
+        free = [(at, box) for at, box in both if not any(meet(around([box], rim), one) for one in others)]
+        if free:
+            at, box = free[0]
+            found[at] = box
+        else:
+            found.append(it)
     return found
 
 

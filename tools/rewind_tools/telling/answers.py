@@ -67,11 +67,9 @@ class Teller:
     def kept_positions(self):
         if self.kept is None:
             return "how many are kept is not known"
-        return (
-            f"the kept positions are 0 to {self.kept}"
-            if self.kept
-            else "no step is kept, so position 0 is the only one"
-        )
+        if self.kept:
+            return f"the kept positions are 0 to {self.kept}"
+        return "no step is kept, so position 0 is the only one"
 
     def absent_processors(self, value):
         """Which of the processors that an object names is none, and which there are; an empty text if all

@@ -26,11 +26,9 @@ def capability(it):
 def request(it):
     p, vertex, time, _, new = it
     there = at(vertex, time)
-    return (
-        f"processor {p} asks for a notification at {there}"
-        if new
-        else f"processor {p} no longer asks for a notification at {there}"
-    )
+    if new:
+        return f"processor {p} asks for a notification at {there}"
+    return f"processor {p} no longer asks for a notification at {there}"
 
 
 def item(it, distincts):
@@ -47,9 +45,8 @@ def item(it, distincts):
 def queue(it):
     sender, receiver, old, new = it
     word = "longer" if new > old else "shorter"
-    return (
-        f"the queue from processor {sender} to {receiver} gets {word}: {counted(old, 'change')}, then {new}"
-    )
+    which = f"the queue from processor {sender} to {receiver}"
+    return f"{which} gets {word}: {counted(old, 'change')}, then {new}"
 
 
 def queues(changed):

@@ -82,11 +82,9 @@ def line_faults(text, reply, teller):
 
 def first_line_faults(text, teller):
     """That the graph comes first, if the line stands in its place and has no sign of one."""
-    return (
-        [graph_faults.graph_first(teller.version)]
-        if teller.graph is None and b'"vertices"' not in text
-        else []
-    )
+    if teller.graph is None and b'"vertices"' not in text:
+        return [graph_faults.graph_first(teller.version)]
+    return []
 
 
 def text_faults(text, teller):
@@ -101,21 +99,16 @@ def text_faults(text, teller):
 def missing_graph(told):
     """That a script ends before its graph, in words; None of any other run."""
     has_ended = all("version" in it.reply for it in told.entries) and (told.entries or not told.output)
-    return (
-        f"the graph is missing: {graph_faults.graph_first(told.version)}"
-        if told.status == 0 and has_ended
-        else None
-    )
+    is_missing = told.status == 0 and has_ended
+    return f"the graph is missing: {graph_faults.graph_first(told.version)}" if is_missing else None
 
 
 FAULTS = {
     "BadShape": lambda value, teller: forms.shape_faults(value, teller.has_clients, teller.version),
     "UnknownName": lambda value, teller: names.unknown_names(teller.graph, value),
     "BadTime": lambda value, teller: names.wrong_times(teller.graph, value),
-    "BadClient": lambda value, teller: [
-        f"\"client\" is {value['client']}, and must be below the number of clients"
-    ],
-    "OneClientOnly": lambda value, teller: [
-        f"\"{value['do']}\" is a query or a search; with several clients there are none"
+    "BadClient": lambda it, _: [f'"client" is {it["client"]}, and must be below the number of clients'],
+    "OneClientOnly": lambda it, _: [
+        f'"{it["do"]}" is a query or a search; with several clients there are none'
     ],
 }

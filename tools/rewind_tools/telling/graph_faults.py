@@ -59,17 +59,11 @@ def form_faults(value, version):
         return shape_faults(value, version)
     if isinstance(value, dict) and "do" not in value:
         return [graph_first(version), *shape_faults(value, version)]
-    word = value["do"] if isinstance(value, dict) else value
-    said = (
-        "commands and queries come after it"
-        if isinstance(value, dict)
-        else f"{shown(value)} {values.kind_of(value)}"
-    )
-    return [
-        graph_first(version),
-        said,
-        *(habits.instead(word, version, False) if isinstance(word, str) else []),
-    ]
+    word, said = value, f"{shown(value)} {values.kind_of(value)}"
+    if isinstance(value, dict):
+        word, said = value["do"], "commands and queries come after it"
+    other = habits.instead(word, version, False) if isinstance(word, str) else []
+    return [graph_first(version), said, *other]
 
 
 def has_version(value):
@@ -80,10 +74,8 @@ def shape_faults(graph, version):
     """What keeps a value from having a graph's form in a script of a version: the faults of its keys, or
     those of its first wrong vertex or edge."""
     if has_version(graph):
-        return [
-            f'a version line is {{"version":N}} alone, N from 2 to {LAST}, as the first line, and the graph'
-            " is the next"
-        ]
+        said = f'a version line is {{"version":N}} alone, N from 2 to {LAST}, as the first line'
+        return [f"{said}, and the graph is the next"]
     faults = order_faults(graph, version)
     if faults:
         return faults
@@ -108,11 +100,8 @@ def part_faults(value, is_vertex, version):
     if not isinstance(value, dict):
         return [f"it {values.kind_of(value)}, and must be an object"]
     form = form_of_vertex(value, version) if is_vertex else {"name": name_kind(version), **EDGE}
-    return (
-        keys_faults(value, form)
-        + value_faults(value, form)
-        + (op_hint(value.get("op"), version) if is_vertex else [])
-    )
+    hint = op_hint(value.get("op"), version) if is_vertex else []
+    return keys_faults(value, form) + value_faults(value, form) + hint
 
 
 def op_hint(op, version):
@@ -160,16 +149,11 @@ def unknown_names(graph):
     for edge in graph["edges"]:
         for key in ("from", "to"):
             if edge[key] not in vertices:
-                near = nearest(edge[key], vertices)
-                hint = (
-                    f"; the nearest vertex is {shown(near)}"
-                    if near
-                    else f"; the vertices are {listed(map(shown, vertices))}"
-                )
+                near, every = nearest(edge[key], vertices), listed(map(shown, vertices))
+                hint = f"the nearest vertex is {shown(near)}" if near else f"the vertices are {every}"
                 what = "is an edge and no vertex" if edge[key] in edges else "is not a vertex"
-                faults.append(
-                    f"the edge {shown(edge['name'])}: {shown(key)}:{shown(edge[key])} {what}{hint}"
-                )
+                end = f"{shown(key)}:{shown(edge[key])}"
+                faults.append(f"the edge {shown(edge['name'])}: {end} {what}; {hint}")
     return faults
 
 
@@ -202,12 +186,9 @@ def wrong_depths(graph):
         start, end = vertices[edge["from"]], vertices[edge["to"]]
         depth = start["depth"] + BEYOND.get(start["op"], 0)
         if depth != end["depth"]:
-            leaves = (
-                f"leaves the {start['op']} {shown(start['name'])} of depth {start['depth']} with depth"
-                f" {depth}"
-            )
+            of = f"the {start['op']} {shown(start['name'])} of depth {start['depth']}"
             enters = f"enters {shown(end['name'])}, which is at depth {end['depth']}"
-            faults.append(f"the edge {shown(edge['name'])} {leaves} and {enters}")
+            faults.append(f"the edge {shown(edge['name'])} leaves {of} with depth {depth} and {enters}")
     return faults
 
 
@@ -221,9 +202,8 @@ def too_large(graph, version):
         if it["depth"] > most:
             faults.append(f"{shown(it['name'])} is at depth {it['depth']}; the limit is {most}{later}")
         elif it["depth"] == most and it["op"] == "ingress":
-            faults.append(
-                f"the ingress {shown(it['name'])} is at depth {most}, the greatest, and enters a loop{later}"
-            )
+            there = f"is at depth {most}, the greatest, and enters a loop{later}"
+            faults.append(f"the ingress {shown(it['name'])} {there}")
     return faults
 
 
@@ -238,11 +218,9 @@ def graph_faults(value, reply, version=1):
     if reply["code"] == 45:
         return too_large(value, version)
     if reply["code"] == 48:
-        most, later = most_processors(version), most_processors(LAST)
-        return [
-            f"a script of version {version} has at most {most} processors; with the first line"
-            f' {{"version":{LAST}}} there may be {later}'
-        ]
+        most = f"a script of version {version} has at most {most_processors(version)} processors"
+        later = f'with the first line {{"version":{LAST}}} there may be {most_processors(LAST)}'
+        return [f"{most}; {later}"]
     if "location" in reply:
         place = shown(reply["location"])
         walk = f"a walk from {place} comes back to {place} and does not strictly advance every timestamp"

@@ -154,8 +154,6 @@ def loops(depth):
 
 
 def parts(depth):
-    return (
-        "the epoch" + ["", " and a loop counter"][depth]
-        if depth < 2
-        else f"the epoch and {depth} loop counters"
-    )
+    if depth < 2:
+        return "the epoch" + ["", " and a loop counter"][depth]
+    return f"the epoch and {depth} loop counters"

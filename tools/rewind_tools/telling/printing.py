@@ -23,16 +23,9 @@ class Page:
         self.width = min(columns, WIDTH)
 
     def say(self, text, indent, colour=""):
-        further = " " * (indent + 2)
-        lines = textwrap.wrap(
-            text,
-            self.width,
-            initial_indent=" " * indent,
-            subsequent_indent=further,
-            break_long_words=False,
-            break_on_hyphens=False,
-        )
-        for line in lines or [""]:
+        how = {"initial_indent": " " * indent, "subsequent_indent": " " * (indent + 2)}
+        how.update(break_long_words=False, break_on_hyphens=False)
+        for line in textwrap.wrap(text, self.width, **how) or [""]:
             self.line(line, colour)
 
     def line(self, text, colour=""):

@@ -12,6 +12,8 @@ from rewind_tools.following.endings import DIFFERS, FOLLOWED, INCOMPLETE, REFUSE
 from rewind_tools.timely.dataflow import ENTERED, across
 
 HANG = "hang"
+# How much of what is left is told of a run that is too long.
+MOST = 8
 STATUSES = {FOLLOWED: 0, HANG: 0, INCOMPLETE: 0, REFUSED: 1, DIFFERS: 1, TOO_LONG: 3}
 CAPABILITY, MESSAGE = "capability", "message"
 
@@ -63,7 +65,7 @@ class Answer(NamedTuple):
 
 def answer_of(run):
     if run.ending.name in (REFUSED, DIFFERS, TOO_LONG):
-        return Answer(run.ending.name, [], [], [])
+        return Answer(run.ending.name, [], [], left_of(run, MOST) if run.ending.name == TOO_LONG else [])
     questions, cut = questions_of(run), missing_of(run, False)
     if cut:
         return Answer(INCOMPLETE, questions, cut, [])
@@ -137,10 +139,7 @@ def reason_of(run, held, point):
         port, time = port.across, across(port, time)
     if not port.is_output:
         return message(run, port, time)
-    worker = run.planner.workers[held["p"]]
-    born = worker.born.get((port, time))
-    count = worker.held[port].counts.get(time, 1)
-    return Reason(CAPABILITY, worker.index, port, time, count, [born] if born else [])
+    return capability(run.planner.workers[held["p"]], port, time)
 
 
 def message(run, port, time):
@@ -149,17 +148,21 @@ def message(run, port, time):
     return Reason(MESSAGE, None, port, time, run.planner.unconsumed((port, time)), made)
 
 
-def left_of(run):
-    """What is left and holds no sink back."""
-    found = []
-    for worker in run.planner.workers:
-        for port, held in worker.held.items():
-            for time, count in held.counts.items():
-                born = worker.born[port, time]
-                found.append(Reason(CAPABILITY, worker.index, port, time, count, [born] if born else []))
+def left_of(run, most=None):
+    """What is left at the end of the logs; at most so much, with the least times."""
+    workers = run.planner.workers
+    held = [(it, port, time) for it in workers for port, its in it.held.items() for time in its.counts]
     left = {(it.hop.target, it.time) for it in run.planner.left()}
-    found += [message(run, *it) for it in sorted(left, key=lambda it: (it[0].vertex, numbers_of(it[1])))]
-    return found
+    held += [(None, *it) for it in sorted(left, key=lambda it: (it[0].vertex, numbers_of(it[1])))]
+    if most:
+        held = sorted(held, key=lambda it: numbers_of(it[2]))[:most]
+    return [capability(*it) if it[0] else message(run, *it[1:]) for it in held]
+
+
+def capability(worker, port, time):
+    """The capabilities that a worker holds at an output."""
+    born, count = worker.born.get((port, time)), worker.held[port].counts.get(time, 1)
+    return Reason(CAPABILITY, worker.index, port, time, count, [born] if born else [])
 
 
 def silent_first(run):

@@ -20,6 +20,7 @@ OPERATES_HAS = {"node", "name", "inputs", "outputs", "summary"}
 CHANNELS_HAS = {"source", "target"}
 PROGRESS_HAS = {"is_send", "source", "seq_no", "messages", "internal"}
 PROGRESS_ALL = PROGRESS_HAS | ANY
+DECODER = json.JSONDecoder()
 MOST_WORKERS = tool.MOST["processors"]
 # The member from which on workers log a batch alike; and what makes an object of what stands before it.
 SHARED, LAST = b'"source"', b'"source":0}'
@@ -183,9 +184,13 @@ class Reader:
             members = self.known.get(shared)
             if members is None:
                 members = self.known[shared] = json.loads(str(b"{" + SHARED + shared, "utf-8"))
-            return json.loads(str(own + LAST, "utf-8")) | members
+            own = str(own + LAST, "utf-8")
+            value, end = DECODER.raw_decode(own)
+            if end == len(own):
+                return value | members
         except (ValueError, TypeError):
-            return json.loads(str(text, "utf-8"))  # a line of another form, or none
+            pass  # a line of another form, or none
+        return json.loads(str(text, "utf-8"))
 
     def line(self, number, value):
         if not isinstance(value, dict) or not isinstance(value.get("event"), str):

@@ -2,9 +2,9 @@
 broadcasts and receives.
 
     planner = Planner(dataflow, progress, report)
-    planner.plan()                     NoOrder, if the batches wait for each other in each order tried
-    planner.all_steps()                the Steps of all traces, in an order in which each can be executed
-    planner.right(steps)               those before the one of each worker that no run can have
+    for pieces in planner.tries():     NoOrder, if the batches wait for each other in each order tried
+        for steps in pieces:           Steps in an order in which each can be executed; each try begins anew
+    planner.traces                     all Steps: also those from the one of a worker on that no run can have
     planner.left()                     messages that no batch says are consumed: Sent, with `left` of them
     planner.untold                     Untold messages: consumed, and no batch says that they were produced
     planner.workers[1].born[point]     the batch since which a worker holds a capability; None: the start
@@ -23,8 +23,8 @@ from typing import NamedTuple
 from rewind_tools.timely.dataflow import ENTRY, LEAVING, across, delayed, is_at_or_before
 from rewind_tools.timely.steps import MOST_EXACT, Steps
 
-# How often planning starts again at most.
-MOST_PLANS = 20
+# How often planning starts again at most; and how many steps are executed at once.
+MOST_PLANS, PIECE = 20, 4_000
 FROM_START = None
 # A change that no step makes.
 OTHER = {("", (0,)): 1}
@@ -177,8 +177,8 @@ class Planner:
         self.steps = Steps(progress.epochs)
         self.located = Located(dataflow, self.steps.times)
         self.workers, self.pools, self.untold = [], {}, []
-        # the traces so far, in the order in which they were planned: Steps, and messages that are Sent
-        self.made = []
+        # all Steps so far, and what was planned after them: Steps, and messages that are Sent
+        self.traces, self.made, self.stopped = [], [], set()
         self.many, self.totals, self.count = set(), {}, len(progress.changes)
         for change in progress.changes.values():
             for sign, counts in ((1, change.delivered), (-1, change.takes)):
@@ -186,27 +186,41 @@ class Planner:
                     self.totals[point] = self.totals.get(point, 0) + sign * n
                     if n > MOST_EXACT:
                         self.many.add(point)
+        self.is_uncounted = bool(self.many) or any(its[1:] for its in dataflow.into.values())
         # by a batch and a message that it consumes, the batches that consume theirs before it; and whether
         # workers may have made more messages that no batch tells than are missing, and consumed as many
         self.after, self.is_generous = {}, False
 
-    def plan(self):
+    def tries(self):
         for self.is_generous in (False, True):
             self.after = {}
             for _ in range(MOST_PLANS):
-                try:
-                    self.plan_once()
-                    return
-                except Again:
-                    pass
-                except NoOrder:
+                yield self.pieces()
+                if self.outcome is not Again:
                     break
+            if self.outcome is None:
+                return
         raise NoOrder([it.batch for worker in self.workers for it in worker.next if it.takes])
 
-    def plan_once(self):
+    def pieces(self):
+        """A try: yields the steps that can be executed; how it ended is the outcome, None at its end."""
+        self.outcome = None
+        try:
+            yield from self.plan()
+        except (Again, NoOrder) as it:
+            self.outcome = type(it)
+
+    def plan(self):
         self.begin()
         while any([self.turn(it) for it in self.workers]) or self.unblock():
             self.report("batches explained", sum(it.sent for it in self.workers), self.count)
+            if len(self.made) > PIECE:
+                yield self.settled()
+        self.plan_rest()
+        yield self.settled(is_last=True)
+
+    def plan_rest(self):
+        """Plans what can be of the batches that are left, so that the program refuses one."""
         left = [it for it in self.workers if not it.is_done and not it.wrong]
         for it in left:
             self.explain(it.pending())  # which may be wrong, too
@@ -215,7 +229,7 @@ class Planner:
 
     def begin(self):
         self.workers = [Worker(index, its, self.dataflow) for index, its in enumerate(self.progress.events)]
-        self.pools, self.made = {}, []
+        self.pools, self.traces, self.made, self.stopped = {}, [], [], set()
         self.missing = {point: -n for point, n in self.totals.items() if n < 0}
         self.surplus = {point: n for point, n in self.totals.items() if n > 0}
         self.untold = []
@@ -336,11 +350,18 @@ class Planner:
         if its messages are not followed one by one, or those of other scopes beside them."""
         if self.dataflow.is_nested:
             return None
-        messages, into = self.progress.changes[pending.batch].messages(), self.dataflow.into
-        if self.many and not self.many.isdisjoint(messages) or any(len(into[it]) > 1 for it, _ in messages):
+        change, located = self.progress.changes[pending.batch], self.located
+        if self.is_uncounted and any(map(self.is_uncounted_at, [*change.takes, *change.makes])):
             return None
-        located, points = self.located, [*messages.items(), *pending.turned.items()]
-        return {located[it]: n for it, n in points}
+        moved = {located[it]: -n for it, n in change.takes.items()}
+        for counts in (change.makes, pending.turned):
+            for it, n in counts.items():
+                moved[located[it]] = n
+        return moved
+
+    def is_uncounted_at(self, point):
+        """Whether messages at a point are not followed one by one, or come over one of several channels."""
+        return point in self.many or len(self.dataflow.into[point[0]]) > 1
 
     def make(self, pending, is_far):
         """Plans what a batch of a worker produces, and its new capabilities: from capabilities at the same
@@ -650,25 +671,32 @@ class Planner:
             self.made += made
         return bool(point)
 
-    def all_steps(self):
-        """The traces of all workers, in an order in which the protocol may allow them."""
-        found = []
-        for it in self.made:
-            if type(it) is Sent:
+    def settled(self, is_last=False):
+        """The next steps that can be executed: before messages of which not all are taken, if more is to be
+        planned. Those from a wrong one of their worker on are left out."""
+        found, count = [], len(self.made)
+        for at, it in enumerate(self.made):
+            if type(it) is not Sent:
+                found.append(it)
+            elif is_last or not it.left:
                 found += self.steps.sent(it, (it.hop.target, it.time) in self.many)
             else:
-                found.append(it)
-        return [*found, *(it for worker in self.workers for it in worker.late)]
+                count = at
+                break
+        self.made = self.made[count:]
+        if is_last:
+            found += [it for worker in self.workers for it in worker.late]
+        self.traces += found
+        return self.right(found) if any(it.wrong for it in self.workers) else found
 
     def right(self, steps):
-        """Of all steps those before the wrong one of their worker."""
-        wrong, stopped, found = {it.wrong for it in self.workers if it.wrong}, set(), []
-        for it in steps if wrong else ():
-            if it in wrong:
-                stopped.add(it.worker)
-            if it.worker not in stopped:
+        """Of steps those before the wrong one of their worker."""
+        found = []
+        for it in steps:
+            self.stopped |= {it.worker} if it is self.workers[it.worker].wrong else set()
+            if it.worker not in self.stopped:
                 found.append(it)
-        return found if wrong else steps
+        return found
 
     def unconsumed(self, point):
         """How many messages no batch says are consumed."""

@@ -4,6 +4,7 @@
     run.follow()
     run.ending                    an Ending of following/endings.py, of the steps
     run.close()"""
+from rewind_tools.following.ahead import Ahead
 from rewind_tools.following.checking import Follower
 from rewind_tools.following.endings import ending_of
 from rewind_tools.following.epochs import Epochs
@@ -43,20 +44,28 @@ class Run:
         return next(it.path for it in self.logs if it.path)
 
     def follow(self):
-        """Plans the traces, and executes them."""
+        """Plans the traces, and executes them while more is planned."""
         try:
-            self.planner.plan()
+            for pieces in self.planner.tries():
+                ahead = self.execute(pieces)
         except NoOrder as why:
             batch = why.waiting[0]
             raise logs.Unsupported(batch.log.path, batch.line, str(why)) from why
         except Unjoined as why:
             raise logs.Unsupported(why.batch.log.path, why.batch.line, unjoined_words(why)) from why
-        steps = self.planner.all_steps()
-        lines = [[it for it in steps if it.worker == log.worker] for log in self.logs]
+        lines = [[it for it in self.planner.traces if it.worker == log.worker] for log in self.logs]
         merging = Merging(lines, Places(self.program.graph, len(lines)))
-        self.follower = Follower(self.program, merging)
-        self.follower.follow(self.planner.right(steps))
+        self.follower = Follower(self.program, merging, ahead.executed)
+        self.follower.follow()
         self.ending = ending_of(self.follower, self.logs)
+
+    def execute(self, pieces):
+        """Executes the steps of a try to plan, after those of none before it."""
+        if self.planner.traces:
+            self.program.again([])
+        ahead = Ahead(self.program, self.report)
+        ahead.execute(pieces)
+        return ahead
 
     @property
     def marks(self):

@@ -72,7 +72,9 @@ class Words:
 
     def too_long(self, answer):
         full = f"too long: a run can have {counted(MOST_STEPS, 'step')}"
-        return [(f"{full}; up to there the protocol allows each batch", 0, BOLD)]
+        said = [(f"{full}; up to there the protocol allows each batch", 0, BOLD)]
+        head = "by the counts of the logs alone, at their end this is left first:"
+        return said + ([(head, 2, ""), *self.reasons(answer.left)] if answer.left else [])
 
     # -- what holds a sink back
 
