@@ -91,7 +91,8 @@ fn start_on(
 ) -> Result<First, AllocError>
     ensures replies { IfOk result (λ r. Starts version processors (Ok graph) r) }
 {
-    if usize::from(processors) > version.most_processors() {
+    let count = usize::from(processors);
+    if count > version.most_processors() {
         return Ok(First::Refused(ErrorReply::Plain(StartFault::BadCount.code())));
     }
     let names = graph.copy(alloc)?;

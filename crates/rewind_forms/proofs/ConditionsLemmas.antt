@@ -8,6 +8,7 @@ use Rattle.nd_breaks.specs.declared.condition.Literal.{Literal}
 use Rattle.nd_breaks.specs.declared.condition.Quantifier.{Quantifier}
 use Rattle.rewind_forms.specs.Conditions.{lesser, beside, literal_of, literals_of, literals_read, with_literal, with_fault, IsOf}
 use Rattle.rewind_forms.specs.LineFaults.{code_of}
+use Rattle.rewind_forms.specs.declared.version.Version.{Version}
 use Rattle.rewind_forms.specs.declared.fault.LineFault.{LineFault}
 
 -- the literals that were read, followed by the others, or the error with the least number
@@ -38,44 +39,44 @@ ahead_fault (Err e) (Err h) f = ap Err (lesser_of_three e f h)
 -- ---- one by one
 
 -- the first i values of a list were read as literals
-pub record HaveRead (g : Dataflow) (quantifier : Quantifier) (ds : List Data) (i : ℕ) (read : Result (Option ConditionValue) LineFault) : Type 0 where
-  pub all : literals_of g ds ≡ ahead (literals_read read) (literals_of g (drop i ds))
+pub record HaveRead (v : Version) (g : Dataflow) (quantifier : Quantifier) (ds : List Data) (i : ℕ) (read : Result (Option ConditionValue) LineFault) : Type 0 where
+  pub all : literals_of v g ds ≡ ahead (literals_read read) (literals_of v g (drop i ds))
   pub count : IfOk (literals_read read) (λ literals. length literals ≡ i)
   pub kind : IsOf quantifier read
 
 -- the next item of a list
-next_literal : (g : Dataflow) (ds : List Data) (i : ℕ) (d : Data) → i < length ds → d ≡ get_or ds i d
-    → literals_of g (drop i ds) ≡ beside (literal_of g d) (literals_of g (drop (i + 1) ds))
-next_literal g ds i d lt is =
+next_literal : (v : Version) (g : Dataflow) (ds : List Data) (i : ℕ) (d : Data) → i < length ds → d ≡ get_or ds i d
+    → literals_of v g (drop i ds) ≡ beside (literal_of v g d) (literals_of v g (drop (i + 1) ds))
+next_literal v g ds i d lt is =
     let after : suc i ≡ i + 1 = omega arith in
-    ap (literals_of g) (drop-cons ds i d lt)
-    ∙ (λ j. beside (literal_of g (sym is j)) (literals_of g (drop (after j) ds)))
+    ap (literals_of v g) (drop-cons ds i d lt)
+    ∙ (λ j. beside (literal_of v g (sym is j)) (literals_of v g (drop (after j) ds)))
 
 one_more : (r : Result (List Literal) LineFault) (l : Literal) (i : ℕ) → IfOk r (λ literals. length literals ≡ i) → IfOk (with_literal r l) (λ literals. length literals ≡ i + 1)
 one_more (Ok ls) l i count = length-append ls (l ∷ []) ∙ ap (λ n. n + 1) count
 one_more (Err e) l i count = count
 
-module _ (g : Dataflow) (quantifier : Quantifier) (ds : List Data) (i : ℕ) (d : Data) (lt : i < length ds) (is : d ≡ get_or ds i d) (read : Result (Option ConditionValue) LineFault) where
+module _ (v : Version) (g : Dataflow) (quantifier : Quantifier) (ds : List Data) (i : ℕ) (d : Data) (lt : i < length ds) (is : d ≡ get_or ds i d) (read : Result (Option ConditionValue) LineFault) where
   -- one more literal
-  pub read_literal : (new : Result (Option ConditionValue) LineFault) (l : Literal) → literal_of g d ≡ Ok l → literals_read new ≡ with_literal (literals_read read) l
-      → (IsOf quantifier read → IsOf quantifier new) → HaveRead g quantifier ds i read → HaveRead g quantifier ds (i + 1) new
+  pub read_literal : (new : Result (Option ConditionValue) LineFault) (l : Literal) → literal_of v g d ≡ Ok l → literals_read new ≡ with_literal (literals_read read) l
+      → (IsOf quantifier read → IsOf quantifier new) → HaveRead v g quantifier ds i read → HaveRead v g quantifier ds (i + 1) new
   read_literal new l literal more kept before = record {
     all = before.all
-        ∙ ap (ahead (literals_read read)) (next_literal g ds i d lt is ∙ ap (λ r. beside r (literals_of g (drop (i + 1) ds))) literal)
-        ∙ ahead_literal (literals_read read) (literals_of g (drop (i + 1) ds)) l
-        ∙ ap (λ r. ahead r (literals_of g (drop (i + 1) ds))) (sym more);
+        ∙ ap (ahead (literals_read read)) (next_literal v g ds i d lt is ∙ ap (λ r. beside r (literals_of v g (drop (i + 1) ds))) literal)
+        ∙ ahead_literal (literals_read read) (literals_of v g (drop (i + 1) ds)) l
+        ∙ ap (λ r. ahead r (literals_of v g (drop (i + 1) ds))) (sym more);
     count = subst (λ (r : Result (List Literal) LineFault). IfOk r (λ literals. length literals ≡ i + 1)) (sym more) (one_more (literals_read read) l i before.count);
     kind = kept before.kind;
   }
 
   -- one more faulty literal
-  pub read_fault : (f e : LineFault) → literal_of g d ≡ Err f → e ≡ with_fault (literals_read read) f
-      → HaveRead g quantifier ds i read → HaveRead g quantifier ds (i + 1) (Err e)
+  pub read_fault : (f e : LineFault) → literal_of v g d ≡ Err f → e ≡ with_fault (literals_read read) f
+      → HaveRead v g quantifier ds i read → HaveRead v g quantifier ds (i + 1) (Err e)
   read_fault f e literal more before = record {
     all = before.all
-        ∙ ap (ahead (literals_read read)) (next_literal g ds i d lt is ∙ ap (λ r. beside r (literals_of g (drop (i + 1) ds))) literal)
-        ∙ ahead_fault (literals_read read) (literals_of g (drop (i + 1) ds)) f
-        ∙ ap (λ h. ahead (Err h) (literals_of g (drop (i + 1) ds))) (sym more);
+        ∙ ap (ahead (literals_read read)) (next_literal v g ds i d lt is ∙ ap (λ r. beside r (literals_of v g (drop (i + 1) ds))) literal)
+        ∙ ahead_fault (literals_read read) (literals_of v g (drop (i + 1) ds)) f
+        ∙ ap (λ h. ahead (Err h) (literals_of v g (drop (i + 1) ds))) (sym more);
     count = tt;
     kind = tt;
   }

@@ -14,6 +14,6 @@ returns-in-Err-LoopNotStrict c = record {
       let fails : IsStartFault c.args.graph c.args.processors (LoopNotStrict c.in-Err-LoopNotStrict.location) =
       subst (λ (f : StartFault). IsStartFault c.args.graph c.args.processors f) c.in-Err-LoopNotStrict.field-0-is
       (subst (λ n. IsStartFault c.args.graph n c.in-Err-LoopNotStrict.field-0) same c.in-Err-LoopNotStrict.ensures.fault) in
-      not_strict_replies c.args.version c.args.processors c.in-Err-LoopNotStrict.location c.args.graph c.in_ok-names.names name _ (omega (arith, c.most_processors.ensures)) fails c.in_ok-names.ensures
+      not_strict_replies c.args.version c.args.processors c.in-Err-LoopNotStrict.location c.args.graph c.in_ok-names.names name _ (omega (arith, c.from-count.ensures, c.most_processors.ensures)) fails c.in_ok-names.ensures
       (c.location_name.ensures ∙ ap Some (sym c.in_ok-name-in-Err-LoopNotStrict.ensures.ok)) (λ i. location_fault (c.code-in-Err-LoopNotStrict.ensures i) name);
 }

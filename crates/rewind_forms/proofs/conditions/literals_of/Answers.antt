@@ -9,6 +9,7 @@ use Rattle.rewind_forms.proofs.conditions.literals_of.Goals.{in-Ok, in-Err}
 
 pub loop-item-preserved : goal.loop-item-preserved
 loop-item-preserved c =
+    let v = c.args.version in
     let g = c.args.graph.now in
     let q = c.args.quantifier in
     let items = c.args.items.now in
@@ -16,12 +17,12 @@ loop-item-preserved c =
     let item = c.item-item.result in
     let lt : i < length (map view items) = omega (arith, c.loop-item-test.true, length-map items view) in
     let is : view item ≡ get_or (map view items) i (view item) = ap view c.item-item.is ∙ sym (get_or-map view items i item (view item) c.loop-item-test.true) in
-    let P : Result (Option ConditionValue) LineFault → Type 0 = λ r. HaveRead g q (map view items) (i + 1) r in
+    let P : Result (Option ConditionValue) LineFault → Type 0 = λ r. HaveRead v g q (map view items) (i + 1) r in
     elim c.match-literal_of.branch [
       | in-Ok w ↦ subst P (sym w.read-is)
-          (read_literal g q (map view items) i (view item) lt is c.loop-item.read w.and_literal-read.result w.in-Ok.literal
+          (read_literal v g q (map view items) i (view item) lt is c.loop-item.read w.and_literal-read.result w.in-Ok.literal
           (sym c.literal_of.ensures ∙ w.in-Ok.is) w.and_literal-read.ensures.literals w.and_literal-read.ensures.quantifier c.loop-item.invariant)
       | in-Err w ↦ subst P (sym w.read-is)
-          (read_fault g q (map view items) i (view item) lt is c.loop-item.read w.in-Err.fault w.and_fault.result
+          (read_fault v g q (map view items) i (view item) lt is c.loop-item.read w.in-Err.fault w.and_fault.result
           (sym c.literal_of.ensures ∙ w.in-Err.is) w.and_fault.ensures c.loop-item.invariant)
     ]

@@ -1,5 +1,6 @@
-use Rattle.std.proofs.Common.{◌∙◌, ◌+◌, ap, refl}
+use Rattle.std.proofs.Common.{◌∙◌, ℕ, ◌+◌, [], ◌∷◌, ◌++◌, ap, refl}
 use Rattle.std.proofs.lemmas.Result.{err_from_is_err_and}
+use Rattle.rewind_lines.specs.Front.{held_of}
 use Rattle.rewind_run.proofs.StandLaws.{adds-none, adds-reply, stopped-memory-here, stopped-refused, stands-next}
 use Rattle.rewind_run.proofs.run.Run.end_line.Goals as goal
 
@@ -20,7 +21,7 @@ returns-then-is_last-clause-err g c = λ n done sent s.
 pub returns-clause-ok : goal.returns-clause-ok
 returns-clause-ok g c = λ n done sent s.
     stands-next n done sent c.args.self.now _ _ _ _ s refl (c.in_ok-reading.ensures.reading _ done s.held) (rw c.if-is_last.false at c.in_ok-count.ensures.answers)
-    (λ l d h. rw (← c.limit-limit.ensures) (c.begin_next.ensures.next l d (c.in_ok-count.ensures.lines ∙ h))) (ap (λ k. k + c.in_ok-count.count) c.in_ok-count.ensures.replied)
+    (λ l d h. c.begin_next.ensures.next l d (c.in_ok-count.ensures.lines ∙ h) ∙ ap (λ (n : ℕ). held_of n (d ++ 10 ∷ [])) c.limit-limit.ensures) (ap (λ k. k + c.in_ok-count.count) c.in_ok-count.ensures.replied)
 
 pub returns-in_err-reading-clause-adds : goal.returns-in_err-reading-clause-adds
 returns-in_err-reading-clause-adds g c = adds-none _ _ refl
