@@ -747,3 +747,29 @@ class Knowing(unittest.TestCase):
             page.wait(lambda: page.run("return window.rewind?.state.picture?.at") == 9, "the position")
             self.assertEqual(page.run("return rewind.state.picture.kept"), 11)
             page.says("why", "the token of processor 1")
+
+
+@needs_browser
+class Wide(unittest.TestCase):
+    """Graphs and clusters of version 9."""
+
+    def test_wide(self):
+        """A graph that is too large to be drawn says so, and its vertices are found by a part of their names;
+        queues that hold the same have one row; the page says by which order times compare."""
+        sinks = [{"name": f"Probe: {it}", "op": "sink", "depth": 0} for it in range(1, 1100)]
+        vertices = [{"name": "the words", "op": "input", "depth": 0}, *sinks]
+        graph = json.dumps({"vertices": vertices, "edges": [], "order": "product"})
+        lines = [graph, json.dumps(feed([5], vertex="the words")), json.dumps({"do": "broadcast", "p": 0})]
+        with Served(lines, ["--processors", "64"]) as live, Page(live) as page:
+            page.at(2, "the page")
+            page.says("drawing", "The graph has 1,100 vertices and edges, and at most 1,024 are drawn.")
+            page.says("drawing", "order of times: product, each loop counter by itself")
+            page.fill("#why-form input[list]", "robe: 77")
+            page.press("enter")
+            page.says("why", "Probe: 77")
+            page.says("queues", "0 \u2192 processors 0 to 63")
+            rows = "return document.querySelectorAll('#spacetime .lane-name').length"
+            self.assertEqual(page.run(rows), 65)
+            high = "return document.querySelector('#spacetime svg').clientHeight"
+            self.assertLess(page.run(high), 800)
+            picture(page, "wide")
