@@ -754,8 +754,8 @@ class Wide(unittest.TestCase):
     """Graphs and clusters of version 9."""
 
     def test_wide(self):
-        """A graph that is too large to be drawn says so, and its vertices are found by a part of their names;
-        queues that hold the same have one row; the page says by which order times compare."""
+        """A graph that is too large to be drawn says so, and its vertices are found by a part of their
+        names; queues that hold the same have one row; the page says by which order times compare."""
         sinks = [{"name": f"Probe: {it}", "op": "sink", "depth": 0} for it in range(1, 1100)]
         vertices = [{"name": "the words", "op": "input", "depth": 0}, *sinks]
         graph = json.dumps({"vertices": vertices, "edges": [], "order": "product"})
