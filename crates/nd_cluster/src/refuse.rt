@@ -16,8 +16,8 @@ use nd_paths::Pointstamp;
 use nd_processor::ValueAt;
 use nd_protocol::{Batch, NoMemory, Times};
 use nd_steps::op_at;
-use nd_time::{TimeOrder, Timestamp};
 use nd_time::limits::MAX_VALUES;
+use nd_time::{TimeOrder, Timestamp};
 use std::alloc::Allocator;
 
 // Returns a refusal that does not say that memory was refused.

@@ -178,10 +178,8 @@ impl Intake {
     {
         match self {
             Intake::Unstarted(Some(version)) => version.longest_graph(),
-            Intake::Unstarted(None)
-            | Intake::Refused(_)
-            | Intake::Faulty(_)
-            | Intake::Whole(_) => MAX_LINE,
+            Intake::Unstarted(None) | Intake::Refused(_) | Intake::Faulty(_) | Intake::Whole(_) =>
+                MAX_LINE,
         }
     }
 

@@ -25,9 +25,9 @@ returns-then-has_place-5 g c =
     let s : ClusterState = c.args.cluster.now in
     let counts : IsTrue (nat_le c.from-then-has_place-5.result c.held.result) ↔ (c.in-Held.at_least ≤ held (processor s c.in-Held.p) c.in-Held.point) = search rules in
     let there : (c.in-Held.p < length s.processors) × (c.in-Held.point.location < location_count s.graph) =
-        elim c.if-p-n.branch [
-          | then-p-n w ↦ (omega (arith, w.if-p-n.true, c.n-in-Held.ensures.value), w.has_place-then-p-n.ensures.0 (sym w.value-is ∙ c.if-has_place-5.true))
-          | else-p-n w ↦ absurd (let bad : false ≡ true = sym (le-ltb c.in-Held.p c.n-in-Held.result (omega (arith, w.if-p-n.false))) ∙ sym w.value-is ∙ c.if-has_place-5.true in cc)
-        ]
+    elim c.if-p-n.branch [
+      | then-p-n w ↦ (omega (arith, w.if-p-n.true, c.n-in-Held.ensures.value), w.has_place-then-p-n.ensures.0 (sym w.value-is ∙ c.if-has_place-5.true))
+      | else-p-n w ↦ absurd (let bad : false ≡ true = sym (le-ltb c.in-Held.p c.n-in-Held.result (omega (arith, w.if-p-n.false))) ∙ sym w.value-is ∙ c.if-has_place-5.true in cc)
+    ]
     in
     rw c.in-Held.is ((λ yes. (there.0, there.1, counts.0 yes)), (λ h. counts.1 h.2))
