@@ -768,6 +768,9 @@ class Wide(unittest.TestCase):
             page.press("enter")
             page.says("why", "Probe: 77")
             page.says("queues", "0 \u2192 processors 0 to 63")
+            heads = "return [...document.querySelectorAll('#points thead th, #points th[scope=col]')]"
+            texts = page.run(f"{heads}.map((it) => it.textContent)")
+            self.assertEqual(texts, ["point", "truth", "view 0 to 63", "unsent 0 to 63"])
             rows = "return document.querySelectorAll('#spacetime .lane-name').length"
             self.assertEqual(page.run(rows), 65)
             high = "return document.querySelector('#spacetime svg').clientHeight"

@@ -66,6 +66,8 @@ WIDE_TOLD = {
         do("run", limit=1, only=[0] * 64), do("run", limit=1, only=[0] * 65),
     ], 0, [
         (2, "read: 3 locations, 64 processors"), (3, "processor 63 feeds 5"),
+        (3, "point | truth | view 0 to 62 63 | unsent 0 to 62 63 a (0) | 63* | 64 64 | . -1*"),
+        (4, "changes on their way: 1 from 63 to processors 0 to 63"),
         (5, "the queues from processor 63 to processors 0 to 63 get longer: 0 changes, then 1"),
         (7, "run processor 0 alone"),
         (8, "has 65 items; expected a list of 1 to 64 processors' numbers"),

@@ -35,6 +35,8 @@ function formsOf(it) {
 
 // From three processors on that wait alike, one row for all of them; and from five queues on that hold the same.
 const ALIKE = 3, MANY_QUEUES = 5;
+// From how many processors on neighbours that view the same, and have the same unsent, are one column.
+const MANY_COLUMNS = 9;
 
 function alikeKey(it) {
   const words = [it.words, it.refused].map((text) => text && text.replaceAll(`processor ${it.p}`, "processor p"));
@@ -82,13 +84,25 @@ function viewCell(row, text, p, old) {
 }
 
 // A row of the table. `old` is the row of the picture before, if there is one.
-function pointRow(row, old) {
+function pointRow([row, old], columns) {
   const point = Object.assign(made("th", row.at), { scope: "row" }), was = (kind, p) => old && old[kind][p];
   return made("tr", [
     point, cell(row.truth, old && old.truth, ["edged"]),
-    ...row.view.map((text, p) => viewCell(row, text, p, was("view", p))),
-    ...row.unsent.map((text, p) => cell(text, was("unsent", p), [p === 0 && "edged"])),
+    ...columns.map(([p]) => viewCell(row, row.view[p], p, was("view", p))),
+    ...columns.map(([p]) => cell(row.unsent[p], was("unsent", p), [p === 0 && "edged"])),
   ]);
+}
+
+// The processors, each alone, or of many the neighbours together whose columns are the same.
+function columnsOf(rows) {
+  const all = [...Array(about.processors).keys()], ofAll = rows.flat().filter(Boolean), columns = [];
+  if (all.length < MANY_COLUMNS) return all.map((p) => [p]);
+  const keys = all.map((p) => JSON.stringify(ofAll.map((it) => [it.view[p], it.unsent[p], it.front[p]])));
+  for (const p of all) {
+    if (p && keys[p] === keys[p - 1]) columns[columns.length - 1].push(p);
+    else columns.push([p]);
+  }
+  return columns;
 }
 
 export function emptyRow(at) {
@@ -101,23 +115,24 @@ export function columnHead(text, words, classes) {
   return words === text ? it : labelled(it, words);
 }
 
-function tableHead() {
-  const columns = (kind) => emptyRow("").view.map((_, p) => columnHead(p ? `${p}` : `${kind} 0`, `${kind} of processor ${p}`, p ? "" : "edged"));
-  return made("tr", [columnHead("point", "location and time"), columnHead("truth", "truth", "edged"), ...columns("view"), ...columns("unsent")]);
+function tableHead(columns) {
+  const textOf = (its) => (its.length > 1 ? `${its[0]} to ${its[its.length - 1]}` : `${its[0]}`);
+  const heads = (kind) => columns.map((its) => columnHead(`${its[0] ? "" : `${kind} `}${textOf(its)}`, `${kind} of ${processorsText(its)}`, its[0] ? "" : "edged"));
+  return made("tr", [columnHead("point", "location and time"), columnHead("truth", "truth", "edged"), ...heads("view"), ...heads("unsent")]);
 }
 
-// The rows of now, and those that are gone since the picture before.
+// The rows of now, and those that are gone since the picture before, each with its row there.
 function tableRows() {
   const { picture: { state: { points, first, count } }, before } = state;
   const isAll = points.length === count && before && before.state.points.length === before.state.count;
   const old = new Map((isAll ? before.state.points : []).map((it) => [it.at, it])), here = new Set(points.map((it) => it.at));
   const gone = first === 0 ? [...old.keys()].filter((at) => !here.has(at)) : [];
-  return [...points, ...gone.map(emptyRow)].map((it) => pointRow(it, isAll ? old.get(it.at) || emptyRow(it.at) : undefined));
+  return [...points, ...gone.map(emptyRow)].map((it) => [it, isAll ? old.get(it.at) || emptyRow(it.at) : undefined]);
 }
 
 function showPoints() {
-  const rows = tableRows(), all = state.picture.state;
-  const wide = made("div", rows.length ? made("table", [tableHead(), ...rows]) : made("p", "nothing is outstanding", "none"), "wide");
+  const rows = tableRows(), all = state.picture.state, columns = columnsOf(rows);
+  const wide = made("div", rows.length ? made("table", [tableHead(columns), ...rows.map((it) => pointRow(it, columns))]) : made("p", "nothing is outstanding", "none"), "wide");
   wide.tabIndex = 0;
   redrawn(by("table"), ...pager("points", all, all.points.length), wide);
 }

@@ -1,9 +1,14 @@
 """A state as a table of points by processors: the true count, and each processor's view and unsent
 change."""
-from rewind_tools.telling.commands import counted, time_in
+import itertools
+
+from rewind_tools.telling.commands import counted, processors, time_in
 
 WIDTH = 100
 LONG = 12
+# From how many processors on neighbours with the same numbers are one column, and from how many queues on
+# those from one processor with as many changes are one.
+MANY, ALIKE = 9, 5
 # How many rows of a loop's rounds are shown before the others are only counted.
 ROUNDS = 3
 NOTHING = "."
@@ -102,8 +107,8 @@ def table(state, before, order, is_whole=False, loops=()):
         return ["nothing is anywhere" if not rows else f"all {len(rows)} points as before"]
     lines, kept_rows = [], folded(shown, loops)
     shown = [it for it, _ in kept_rows]
-    for processors in blocks(shown, len(state["processors"])):
-        head, *others = block(shown, processors)
+    for groups in blocks(shown, groups_of(shown, len(state["processors"]))):
+        head, *others = block(shown, groups)
         lines += [head, *(it for line, (_, more) in zip(others, kept_rows) for it in (line, more) if it)]
     kept = len(rows) - len(changed)
     return lines + ([f"and {counted(kept, 'point')} as before"] if is_cut and kept else [])
@@ -113,23 +118,33 @@ def cell(number, is_changed):
     return (str(number) if number else NOTHING) + ("*" if is_changed else " ")
 
 
-def columns(rows, processors):
+def cells_of(rows, key):
+    return [cell(row[1][key], key in row[2]) for row in rows]
+
+
+def groups_of(rows, count):
+    """The processors, each alone, or of many the neighbours together whose columns are the same."""
+    if count < MANY:
+        return [[p] for p in range(count)]
+    columns_of = [(cells_of(rows, ("view", p)), cells_of(rows, ("unsent", p))) for p in range(count)]
+    return [list(its) for _, its in itertools.groupby(range(count), key=lambda p: columns_of[p])]
+
+
+def columns(rows, groups):
     """The groups of columns; of each column its head and its cells."""
-    groups = [[("truth", ("truth", None))]]
+    heads = [str(it[0]) if len(it) == 1 else f"{it[0]} to {it[-1]}" for it in groups]
+    found = [[("truth", ("truth", None))]]
     for kind in ("view", "unsent"):
-        groups.append([(str(p), (kind, p)) for p in processors])
-        groups[-1][0] = (f"{kind} {processors[0]}", groups[-1][0][1])
-    return [
-        [(head, [cell(row[1][key], key in row[2]) for row in rows]) for head, key in group]
-        for group in groups
-    ]
+        found.append([(head, (kind, its[0])) for head, its in zip(heads, groups)])
+        found[-1][0] = (f"{kind} {heads[0]}", found[-1][0][1])
+    return [[(head, cells_of(rows, key)) for head, key in group] for group in found]
 
 
-def block(rows, processors):
+def block(rows, groups):
     """The table's lines for some of the processors."""
     names = ["point"] + [f"{place} {time_in(time)}" for (place, time), _, _ in rows]
     lines = [[name.ljust(max(map(len, names)))] for name in names]
-    for group in columns(rows, processors):
+    for group in columns(rows, groups):
         texts = [[head + " ", *cells] for head, cells in group]
         widths = [max(map(len, it)) for it in texts]
         for at, line in enumerate(lines):
@@ -137,9 +152,9 @@ def block(rows, processors):
     return [" | ".join(line).rstrip() for line in lines]
 
 
-def blocks(rows, count):
-    """The processors in as few blocks as the width allows, in their order."""
-    left = list(range(count))
+def blocks(rows, groups):
+    """The groups of processors in as few blocks as the width allows, in their order."""
+    left = groups
     while left:
         fitting = next(
             (n for n in range(len(left), 1, -1) if width_of(block(rows, left[:n])) <= WIDTH - 4), 1
@@ -155,12 +170,7 @@ def width_of(lines):
 def queues_and_sinks(state, before, is_whole=False):
     """What is on its way, and what the sinks have counted if that differs from before, a sentence each if
     there is any."""
-    queues = [
-        f"{len(changes)} from {p} to {q}"
-        for p, row in enumerate(state["queues"])
-        for q, changes in enumerate(row)
-        if changes
-    ]
+    queues = [it for p, row in enumerate(state["queues"]) for it in queues_from(p, row)]
     now, old = sink_counts(state), sink_counts(before) if before and not is_whole else {}
     changed = {key: now.get(key, 0) for key in [*now, *old] if now.get(key) != old.get(key)}
     sinks = [
@@ -169,6 +179,19 @@ def queues_and_sinks(state, before, is_whole=False):
     ]
     on_way = [f"changes on their way: {', '.join(queues)}"] if queues else []
     return on_way + ([f"sinks have counted: {', '.join(sinks)}"] if sinks else [])
+
+
+def queues_from(p, row):
+    """How many changes are in each queue from a processor that is not empty; of several queues alike at
+    once."""
+    by_count = {}
+    for q, changes in enumerate(row):
+        by_count.setdefault(len(changes), []).append(q)
+    for count, receivers in by_count.items():
+        if count and len(receivers) < ALIKE:
+            yield from (f"{count} from {p} to {q}" for q in receivers)
+        elif count:
+            yield f"{count} from {p} to {processors(receivers)}"
 
 
 def sink_counts(state):
