@@ -17,6 +17,7 @@ use Rattle.nd_protocol.specs.State.{ClusterState, view as view_in}
 use Rattle.nd_state_json.specs.StateText.{entries_data}
 use Rattle.nd_cluster.specs.Starting.{IsStartFault, start_code}
 use Rattle.nd_cluster.specs.declared.start.StartFault.TheVariants as start_fault
+use Rattle.rewind_forms.specs.Versions.{most_processors}
 use Rattle.rewind_forms.specs.declared.version.Version.{Version}
 use Rattle.rewind_forms.specs.declared.asked.Asked.{Asked}
 use Rattle.rewind_forms.specs.declared.fault.LineFault.{LineFault}
