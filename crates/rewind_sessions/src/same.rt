@@ -51,9 +51,11 @@ fn same_edges(one: &[Edge], other: &[Edge]) -> bool
     true
 }
 
-/// Returns whether two graphs have the same vertices and edges.
+/// Returns whether two graphs have the same timestamp order, vertices and edges.
 pub fn same_graph(one: &Graph, other: &Graph) -> bool
     ensures { MatchBool result (one.now ≡ other.now) (one.now ≢ other.now) }
 {
-    same_vertices(one.vertices(), other.vertices()) && same_edges(one.edges(), other.edges())
+    one.order() == other.order()
+        && same_vertices(one.vertices(), other.vertices())
+        && same_edges(one.edges(), other.edges())
 }
