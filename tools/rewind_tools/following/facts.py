@@ -3,7 +3,7 @@ the point that was left out, and why a time is not finished.
 
     refused(words, line, value, reply)      why a line was refused, in sentences; none if tools/tell has them
     why(words, line, asked)                 why a time is not finished, in sentences"""
-from rewind_tools.telling.answers import inadmissible, no_capability, not_yet
+from rewind_tools.telling.answers import by_order, inadmissible, no_capability, not_yet
 from rewind_tools.telling.commands import at, counted, ports_words, processors, record, some_of, time_in
 from rewind_tools.telling.reasons import why_words
 
@@ -115,7 +115,7 @@ def no_port(words, line, value, reply):
 
 
 def too_early(words, line, value, reply):
-    return [f"{time_in(value['at'])} is not at or after {time_in(value['time'])}"]
+    return [f"{time_in(value['at'])} is not at or after {time_in(value['time'])}{by_order(words.teller)}"]
 
 
 FACTS = {
