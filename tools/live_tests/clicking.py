@@ -198,7 +198,8 @@ class Feeding(unittest.TestCase):
             page.press("enter")
             page.at(1, "the feed")
             page.says("effect", "records of value 9007199254740993")
-            self.assertEqual(page.run("return document.querySelector(arguments[0]).value", VALUES), "")
+            empty = "return document.querySelector(arguments[0]).value === \"\""
+            page.wait(lambda: page.run(empty, VALUES), "the empty field")
             page.click_text("#candidates button", "takes a record of value -9223372036854775808 from")
             page.at(2, "the take")
             page.says("effect", "takes a record of value -9223372036854775808 from")
