@@ -28,7 +28,6 @@ use Rattle.nd_history.specs.Least.{HoldsAt, IsLeast as IsLeastHit}
 use Rattle.nd_history.specs.Answers.{MaySearch, SearchFails}
 use Rattle.nd_history.specs.declared.fault.SearchFault.{SearchFault}
 use Rattle.rewind_forms.specs.declared.queries.Search.{Search}
-use Rattle.rewind_forms.specs.Versions.{most_processors}
 use Rattle.rewind_answers.specs.Answers.{Logged, running, refused, StartReplies, not_strict, draft_in, checked_in, graph_of, graph_of_draft, AskedReply, FormReplies, LineReplies, FrontierReply, SearchReply, searched, unanswered, search_fault}
 
 -- a value that is not a draft
