@@ -26,7 +26,7 @@ use thiserror::Error;
 /// Why a cluster does not start.
 #[derive(Clone, Copy, Debug, PartialEq, Eq, Drop, Error)]
 pub enum StartFault {
-    #[error("a cluster has 1 to 16 processors")]
+    #[error("a cluster has 1 to 64 processors")]
     BadCount,
     #[error("a loop through location {location} does not increase every time")]
     LoopNotStrict { location: usize },
