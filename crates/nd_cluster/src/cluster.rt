@@ -43,7 +43,7 @@ impl<A: Allocator + Copy> Model for Cluster<A> {
 }
 
 impl<A: Allocator + Copy> Cluster<A> {
-    /// Returns the number of processors, 1 to 16. The keys, counts and depths of every cluster are within the limits.
+    /// Returns the number of processors, 1 to 64. The keys, counts and depths of every cluster are within the limits.
     pub fn n(&self) -> usize
         ensures value { result ≡ length self.now.processors }
         ensures state { IsState self.now }
