@@ -80,7 +80,8 @@ fn literals_of(
     requires few { length items.now ≤ max_literals }
     ensures ok { IfOk result
         (MakeUp quantifier (literals_in version graph.now (map view items.now))) }
-    ensures err { IfErr result (λ e. literals_in version graph.now (map view items.now) ≡ Err e) }
+    ensures err { IfErr result
+        (λ e. literals_in version graph.now (map view items.now) ≡ Err e) }
 {
     let mut read: Read = Ok(None);
     for item in items {

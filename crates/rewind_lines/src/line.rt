@@ -49,7 +49,8 @@ impl<A: Allocator> Line<A> {
 
     /// Appends more bytes to the line.
     pub fn extend(&mut self, bytes: &[u8]) -> Result<(), AllocError>
-        ensures ok { OnOk result ((limit : ℕ) (line : List ℕ) → self.old ≡ front_of limit line
+        ensures ok { OnOk result
+            ((limit : ℕ) (line : List ℕ) → self.old ≡ front_of limit line
             → self.new ≡ front_of limit (line ++ bytes.now)) }
         ensures err { OnErr result (self.new ≡ self.old) }
 
