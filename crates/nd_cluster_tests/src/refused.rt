@@ -59,6 +59,8 @@ fn graphs<A: Allocator + Copy>(alloc: A, json: Global) -> Option<()> {
     draft.check_v1(alloc).ok()?;
     let draft = GraphDraft::from_value_v5(alloc, &value).ok()?;
     draft.check_v5(alloc).ok()?;
+    let draft = GraphDraft::from_value_v8(alloc, &value).ok()?;
+    draft.check_v8(alloc).ok()?;
     let draft = GraphDraft::from_value(alloc, &value).ok()?;
     draft.check(alloc).ok()?;
     Some(())
